@@ -1,0 +1,40 @@
+-- What a key is made of.
+use Rattle.std.specs.Prelude.{ℕ, zero, suc, ◌+◌, ◌*◌, Bool, true, false, ◌&&◌, nat_le, nat_eq, List, [], ◌∷◌, length}
+use Rattle.std.specs.List.{list_all}
+use Rattle.far_base.specs.declared.key.TheConstants.{KEY_LENGTH}
+
+-- a byte that may stand in a key or a body
+abbrev pub is_visible : ℕ → Bool
+is_visible b = nat_le 33 b && nat_le b 126
+
+-- a text that a key can be made of
+abbrev pub is_key_text : List ℕ → Bool
+is_key_text text = (nat_le 1 (length text) && nat_le (length text) KEY_LENGTH) && list_all is_visible text
+
+abbrev pub all_zero : List ℕ → Bool
+all_zero bytes = list_all (λ b. nat_eq b 0) bytes
+
+-- visible bytes, then zeros only
+abbrev pub visible_then_zeros : List ℕ → Bool
+visible_then_zeros [] = true
+visible_then_zeros (zero ∷ bs) = all_zero bs
+visible_then_zeros (suc b ∷ bs) = is_visible (suc b) && visible_then_zeros bs
+
+abbrev pub starts_visible : List ℕ → Bool
+starts_visible [] = false
+starts_visible (b ∷ bs) = is_visible b
+
+-- the bytes of a key: one or more visible ones, then zeros, sixteen together
+abbrev pub is_key : List ℕ → Bool
+is_key bytes = nat_eq (length bytes) KEY_LENGTH && (starts_visible bytes && visible_then_zeros bytes)
+
+-- the text of a key: its bytes before the zeros
+abbrev pub key_text : List ℕ → List ℕ
+key_text [] = []
+key_text (zero ∷ bs) = []
+key_text (suc b ∷ bs) = suc b ∷ key_text bs
+
+-- the sum of the bytes, the first times the factor, the next times one more, and so on
+abbrev pub weighted_sum : ℕ → List ℕ → ℕ
+weighted_sum factor [] = 0
+weighted_sum factor (b ∷ bs) = factor * b + weighted_sum (factor + 1) bs

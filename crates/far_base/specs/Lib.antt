@@ -1,0 +1,5 @@
+pub mod BodyFields
+pub mod Key
+pub mod Limits
+pub mod Padded
+pub mod PlanView

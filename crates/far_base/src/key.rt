@@ -1,0 +1,145 @@
+use crate::front::put_front;
+use std::marker::Model;
+
+/// The number of bytes of a key.
+pub const KEY_LENGTH: usize = 16;
+
+/// A key: one to sixteen visible bytes, each from 33 to 126, and then zeros up to sixteen bytes.
+/// Contracts see the sixteen bytes. Keys are ordered by them.
+#[derive(Clone, Copy, Debug, PartialEq, Eq, PartialOrd, Ord, Hash)]
+pub struct Key {
+    bytes: [u8; KEY_LENGTH],
+}
+
+impl Model for Key {
+    ghost use Rattle.std.specs.Prelude.{List, ℕ, IsTrue};
+    ghost use Rattle.far_base.specs.Key.{is_key};
+
+    ghost Value = { List ℕ };
+
+    ghost view = { λ k. k.bytes };
+
+    ghost invariant = { λ k. IsTrue (is_key k.bytes) };
+
+    ghost inverse = { λ bytes. record { bytes = bytes } };
+}
+
+ghost use Rattle.std.specs.Prelude.{◌≡◌, ◌+◌, ◌*◌, ◌%◌, ◌≤◌, ◌<◌, ◌↔◌, length, IsTrue, IfSome, IsSome, sum};
+ghost use Rattle.std.specs.List.{list_all};
+ghost use Rattle.far_base.specs.Key.{is_key, is_key_text, is_visible, all_zero, visible_then_zeros, key_text, weighted_sum};
+ghost use Rattle.far_base.specs.Padded.{padded};
+
+fn are_zeros(bytes: &[u8]) -> bool
+    ensures { result ≡ all_zero bytes.now }
+{
+    bytes.iter().all(|byte| *byte == 0)
+}
+
+fn are_visible_then_zeros(bytes: &[u8]) -> bool
+    ensures { result ≡ visible_then_zeros bytes.now }
+{
+    let mut rest = bytes;
+    while let [first, after @ ..] = rest {
+        if *first == 0 {
+            return are_zeros(after);
+        }
+        if *first < 33 || *first > 126 {
+            return false;
+        }
+        rest = after;
+    }
+    true
+}
+
+fn in_array(text: &[u8]) -> [u8; KEY_LENGTH]
+    requires { length text.now ≤ KEY_LENGTH }
+    ensures { result ≡ padded KEY_LENGTH text.now }
+{
+    let mut bytes = [0; KEY_LENGTH];
+    put_front(&mut bytes, text);
+    bytes
+}
+
+fn are_visible(text: &[u8]) -> bool
+    ensures { result ≡ list_all is_visible text.now }
+{
+    text.iter().all(|byte| 33 <= *byte && *byte <= 126)
+}
+
+fn is_text(text: &[u8]) -> bool
+    ensures { result ≡ is_key_text text.now }
+{
+    1 <= text.len() && text.len() <= KEY_LENGTH && are_visible(text)
+}
+
+impl Key {
+    /// The key of a text. `None` exactly where the text is empty, is longer than sixteen bytes or has
+    /// a byte outside 33 to 126.
+    #[tactic(auto, using(crate::proofs::Keys::padded_is_key))]
+    pub fn from_text(text: &[u8]) -> Option<Self>
+        ensures value { IfSome result (λ key. key ≡ padded KEY_LENGTH text.now) }
+        ensures valid { IsSome result ↔ IsTrue (is_key_text text.now) }
+    {
+        if !is_text(text) {
+            return None;
+        }
+        Some(Key {
+            bytes: in_array(text),
+        })
+    }
+
+    /// The key that these sixteen bytes are. `None` exactly where they are no key.
+    pub fn from_array(bytes: [u8; KEY_LENGTH]) -> Option<Self>
+        ensures value { IfSome result (λ key. key ≡ bytes) }
+        ensures valid { IsSome result ↔ IsTrue (is_key bytes) }
+    {
+        if bytes[0] == 0 || !are_visible_then_zeros(&bytes) {
+            return None;
+        }
+        Some(Key { bytes })
+    }
+
+    /// The sixteen bytes.
+    pub fn bytes(&self) -> &[u8]
+        ensures value { result.now ≡ self.now }
+        ensures key { IsTrue (is_key self.now) }
+        ensures length { length self.now ≡ KEY_LENGTH }
+    {
+        &self.bytes
+    }
+
+    /// The text: the bytes before the zeros.
+    pub fn text(&self) -> &[u8]
+        ensures value { result.now ≡ key_text self.now }
+    {
+        let mut end = 0;
+        while end < KEY_LENGTH && self.bytes[end] != 0 {
+            end += 1;
+        }
+        &self.bytes[..end]
+    }
+
+    /// The sum of the sixteen bytes. The server of a key is this sum modulo the number of servers.
+    pub fn byte_sum(&self) -> u32
+        ensures value { result ≡ sum self.now }
+        ensures bound { result < 4096 }
+    {
+        let mut total = 0;
+        for byte in &self.bytes {
+            total += u32::from(*byte);
+        }
+        total
+    }
+
+    /// The hot cell of the key, from 0 to 255: the sum of (i + 1) times byte i, modulo 256.
+    pub fn cell(&self) -> u32
+        ensures value { result ≡ weighted_sum 1 self.now % 256 }
+        ensures bound { result < 256 }
+    {
+        let mut total = 0;
+        for i in 0..KEY_LENGTH {
+            total += (i as u32 + 1) * u32::from(self.bytes[i]);
+        }
+        total % 256
+    }
+}

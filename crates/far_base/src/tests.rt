@@ -1,0 +1,35 @@
+use super::*;
+use std::test::Fail;
+
+fn key_of(text: &[u8]) -> Result<Key, Fail> {
+    Ok(Key::from_text(text).ok_or("no key")?)
+}
+
+#[test]
+fn keys_have_their_sums_and_cells(rt: HostRuntime) -> Result<(), Fail> {
+    let key = key_of(b"ab")?;
+    assert_eq!(rt; key.byte_sum(), 195);
+    assert_eq!(rt; key.cell(), 37);
+    assert_eq!(rt; key.byte_sum() % 4, 3);
+    assert!(rt; Key::from_text(b"").is_none());
+    assert!(rt; Key::from_text(b"0123456789abcdefg").is_none());
+    assert!(rt; Key::from_text(b"a b").is_none());
+    Ok(())
+}
+
+#[test]
+fn a_key_gives_its_text_back(rt: HostRuntime) -> Result<(), Fail> {
+    assert!(rt; key_of(b"k17")?.text() == b"k17".as_slice());
+    assert!(rt; key_of(b"0123456789abcdef")?.text() == b"0123456789abcdef".as_slice());
+    Ok(())
+}
+
+#[test]
+fn bodies_end_at_their_limit(rt: HostRuntime) -> Result<(), Fail> {
+    let body = Body::from_bytes(&[120; BODY_LIMIT]).ok_or("no body")?;
+    assert_eq!(rt; body.text().len(), BODY_LIMIT);
+    assert!(rt; Body::from_bytes(&[120; BODY_LIMIT + 1]).is_none());
+    assert!(rt; !Body::absent().is_present());
+    assert!(rt; Body::absent().text().is_empty());
+    Ok(())
+}
