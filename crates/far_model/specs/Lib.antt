@@ -1,0 +1,4 @@
+pub mod Coherent
+pub mod History
+pub mod Log
+pub mod Members
