@@ -9,7 +9,8 @@ use Rattle.far_base.specs.declared.party.Party.TheVariants.{Controller}
 use Rattle.far_base.specs.declared.plan.OpLine.{OpLine}
 use Rattle.far_base.specs.declared.plan.Op.TheVariants.{Get, Put, Del}
 use Rattle.far_base.specs.declared.record.Record.{Record}
-use Rattle.far_model.specs.Log.{is_read, same_key}
+use Rattle.far_model.specs.KeyedRecords.{put_record}
+use Rattle.far_model.specs.Log.{is_read}
 use Rattle.far_model.specs.Parties.{Turn, idle, to_party}
 
 -- a client: the operation that it waits for, those that it has still to send, the point up to which its writes
@@ -42,18 +43,13 @@ opening_client ops client = record { waits = None; left = script ops client; rel
 abbrev pub request : ℕ → ℕ → OpLine → Packet
 request client op line = if is_read line.op then GetReq client op line.key else WriteReq client op line.key line.body
 
--- the record takes the place of that of its key, or goes last
-abbrev pub preserve : Record → List Record → List Record
-preserve r [] = r ∷ []
-preserve r (x ∷ xs) = if same_key x.key r.key then r ∷ xs else x ∷ preserve r xs
-
 -- the answer closes the open operation
 abbrev pub closed : ClientState → ClientState
 closed s = record s { waits = None }
 
 -- a write that only the switch has, above the released point, is preserved
 abbrev pub preserves : ClientState → Bool → Record → ClientState
-preserves s kept r = if kept && nat_lt s.released r.num then record s { preserved = preserve r s.preserved } else s
+preserves s kept r = if kept && nat_lt s.released r.num then record s { preserved = put_record r s.preserved } else s
 
 abbrev pub released_to : ℕ → ClientState → ClientState
 released_to point s = record s { released = max s.released point; preserved = filter (λ (r : Record). nat_lt (max s.released point) r.num) s.preserved }

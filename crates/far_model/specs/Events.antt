@@ -1,7 +1,6 @@
 -- The events: when each can happen, and what it does.
 use Rattle.std.specs.Prelude.{◌≡◌, ℕ, zero, suc, ◌+◌, Bool, true, false, ◌&&◌, ◌||◌, not, nat_eq, nat_le, nat_lt, if◌then◌else◌, List, [], ◌∷◌, ◌++◌, length, map, remove, slice_get, slice_set, is_some, Option, None, Some}
 use Rattle.std.specs.List.{list_any}
-use Rattle.std.specs.FinMap as map_of
 use Rattle.far_base.specs.PlanView.{PlanView}
 use Rattle.far_base.specs.Limits.{due_step}
 use Rattle.far_base.specs.declared.event.Event.{Event}
@@ -19,10 +18,10 @@ use Rattle.far_base.specs.declared.plan.Order.TheVariants.{Admit as AdmitOrder, 
 use Rattle.far_base.specs.declared.record.Record.{Record}
 use Rattle.far_model.specs.Clients.{ClientState, line_of, request, client_takes}
 use Rattle.far_model.specs.Controller.{ControllerState, wanted, tick, evict_key, start_snapshot, start_recovery, ready, restarted, controller_takes}
-use Rattle.far_model.specs.History.{Held}
+use Rattle.far_model.specs.KeyedRecords.{by_key}
 use Rattle.far_model.specs.Parties.{Turn, idle, to_party, messages_from}
 use Rattle.far_model.specs.Pass.{Passed, pass, passed_out, pass_notes}
-use Rattle.far_model.specs.Servers.{Records, no_records, listed, server_keeps, server_reply}
+use Rattle.far_model.specs.Servers.{server_keeps, server_reply}
 use Rattle.far_model.specs.State.{State, client_at, records_at, noted, stepped}
 use Rattle.far_model.specs.View.{opening_view}
 
@@ -128,13 +127,13 @@ abbrev pub reply_to : State → Option Message → Option Packet
 reply_to s None = None
 reply_to s (Some m) = reply_at s m.to m.packet
 
-abbrev pub entries_of : List Records → List (List ℕ × Held)
-entries_of [] = []
-entries_of (r ∷ rs) = map_of.entries r ++ entries_of rs
+abbrev pub all_records : List (List Record) → List Record
+all_records [] = []
+all_records (records ∷ servers) = records ++ all_records servers
 
 -- all records of all servers, by key
-abbrev pub all_listed : List Records → List Record
-all_listed servers = listed (map_of.from_entries (entries_of servers))
+abbrev pub all_listed : List (List Record) → List Record
+all_listed servers = by_key (all_records servers)
 
 abbrev pub reply_in : State → Event → Option Packet
 reply_in s (Deliver i) = reply_to s (slice_get s.bag i)

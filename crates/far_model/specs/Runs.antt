@@ -1,5 +1,5 @@
 -- Runs: events one after the other, and the run that picks choose.
-use Rattle.std.specs.Prelude.{◌≡◌, ℕ, suc, ◌+◌, ◌%◌, Bool, true, false, ◌&&◌, not, nat_eq, if◌then◌else◌, List, [], ◌∷◌, ◌++◌, length, slice_get, slice_index_or, is_some, Option, None, Some, IsTrue}
+use Rattle.std.specs.Prelude.{◌≡◌, ℕ, zero, suc, ◌+◌, ◌%◌, Bool, true, false, ◌&&◌, not, nat_eq, if◌then◌else◌, List, [], ◌∷◌, ◌++◌, length, slice_get, slice_index_or, is_some, Option, None, Some, IsTrue}
 use Rattle.std.specs.List.{list_all}
 use Rattle.far_base.specs.PlanView.{PlanView}
 use Rattle.far_base.specs.declared.event.Event.{Event}
@@ -58,3 +58,9 @@ IsPickedFrom plan pick n s (e ∷ es) = (is_quiet plan s ≡ false) × (e ≡ ne
 -- the listed picks in their order, and then 0
 abbrev pub listed_pick : List ℕ → ℕ → ℕ
 listed_pick picks n = slice_index_or picks n 0
+
+-- the events of at most so many steps by these picks
+abbrev pub picked_events : PlanView → ℕ → List ℕ → ℕ → State → List Event
+picked_events plan zero picks n s = []
+picked_events plan (suc fuel) picks n s = if is_quiet plan s then [] else
+    next_event plan s (listed_pick picks n) ∷ picked_events plan fuel picks (picks_after plan s n) (happens plan s (next_event plan s (listed_pick picks n)))

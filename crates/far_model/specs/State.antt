@@ -5,9 +5,9 @@ use Rattle.far_base.specs.declared.log.LogEntry.{LogEntry}
 use Rattle.far_base.specs.declared.log.LogLine.{LogLine}
 use Rattle.far_base.specs.declared.packet.Message.{Message}
 use Rattle.far_base.specs.declared.plan.OpLine.{OpLine}
+use Rattle.far_base.specs.declared.record.Record.{Record}
 use Rattle.far_model.specs.Clients.{ClientState, opening_client}
 use Rattle.far_model.specs.Controller.{ControllerState, opening_controller}
-use Rattle.far_model.specs.Servers.{Records, no_records}
 use Rattle.far_model.specs.View.{SwitchView, opening_view}
 
 -- the parties, the messages on their way (oldest first), the number of orders done, the number of steps, and the log
@@ -15,7 +15,7 @@ pub record State : Type 0 where
   pub switch : SwitchView
   pub running : Bool
   pub clients : List ClientState
-  pub servers : List Records
+  pub servers : List (List Record)
   pub controller : ControllerState
   pub bag : List Message
   pub done : ℕ
@@ -31,7 +31,7 @@ opening plan = record {
   switch = opening_view plan.config 1 0;
   running = true;
   clients = clients_from plan.ops 0 plan.config.clients;
-  servers = replicate plan.config.servers no_records;
+  servers = replicate plan.config.servers [];
   controller = opening_controller plan.config;
   bag = [];
   done = 0;
@@ -45,8 +45,8 @@ nobody = record { waits = None; left = []; released = 0; preserved = [] }
 abbrev pub client_at : State → ℕ → ClientState
 client_at s c = slice_index_or s.clients c nobody
 
-abbrev pub records_at : State → ℕ → Records
-records_at s server = slice_index_or s.servers server no_records
+abbrev pub records_at : State → ℕ → List Record
+records_at s server = slice_index_or s.servers server []
 
 -- the moment of the step that is made now
 abbrev pub now : State → ℕ
