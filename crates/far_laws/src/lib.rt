@@ -1,0 +1,6 @@
+//! The laws of the cache: functions with no code, whose contracts are what holds of every log and every run.
+#![tactic(auto)]
+
+mod logs;
+
+pub use logs::{all_placed, coherent_log, one_history};
