@@ -1,12 +1,12 @@
 -- Exposed numbers, and the moments at which numbers take effect.
-use Rattle.std.proofs.Common.{◌≡◌, ◌≢◌, ℕ, zero, suc, ◌<◌, ◌≤◌, max, ◌⊎◌, inl, inr, Bool, true, false, List, [], ◌∷◌, refl, sym, ap, ◌∙◌, subst, arith, le-leb, leb-true, leb-false, le_trans}
+use Rattle.std.proofs.Common.{◌≡◌, ℕ, zero, suc, ◌<◌, ◌≤◌, max, ◌⊎◌, inl, inr, Bool, true, false, List, [], ◌∷◌, refl, sym, ◌∙◌, subst, arith, le-leb, leb-true, le_trans}
 use Rattle.std.specs.Prelude.{Option, Some, None, if◌then◌else◌, nat_le}
-use Rattle.std.proofs.Math.Nat.{le-max_left, le-max_right, max-le}
+use Rattle.std.proofs.Math.Nat.{le-max_left, le-max_right}
 use Rattle.std.proofs.lemmas.Bool.Decides.{leb_tells}
 use Rattle.std.specs.Cmp.Lexicographic.{bytes_decides}
 use Rattle.far_base.specs.declared.log.LogLine.{LogLine}
 use Rattle.far_base.specs.declared.log.LogEntry.{LogEntry}
-use Rattle.far_base.specs.declared.log.LogEntry.TheVariants.{Sent, Numbered, Emitted, Answered, Admitted, Evicted, Kept, Snapped, SnapItem, Stopped, Recovered, RecItem}
+use Rattle.far_base.specs.declared.log.LogEntry.TheVariants.{Emitted}
 use Rattle.far_model.specs.Members.{Among}
 use Rattle.far_model.specs.Log.{At, same_key, sent_on, is_on, sending, number_shown, greatest_shown, exposed, IsTakingMoment}
 
@@ -70,6 +70,7 @@ peak on moment (m ∷ ms) h = go (peak on moment ms) (max_cases (part on moment 
     here : (b : Bool) → nat_le m.moment moment ≡ b → 0 < (if b then number_shown on m.entry else 0) → (m.moment ≤ moment) × (number_shown on m.entry ≡ (if b then number_shown on m.entry else 0))
     here true e k = (leb-true m.moment moment e, refl)
     here false e k = absurd (omega arith)
+
     go : (0 < greatest_shown on moment ms → Peak on moment (greatest_shown on moment ms) ms) → (max (part on moment m) (greatest_shown on moment ms) ≡ part on moment m) ⊎ (max (part on moment m) (greatest_shown on moment ms) ≡ greatest_shown on moment ms)
         → Peak on moment (greatest_shown on moment (m ∷ ms)) (m ∷ ms)
     go f (inl e) =

@@ -1,16 +1,15 @@
 -- What a coherent log says of the operations, by their first lines.
-use Rattle.std.proofs.Common.{◌≡◌, ◌≢◌, ℕ, zero, suc, ◌<◌, ◌≤◌, ◌⊎◌, inl, inr, Bool, true, false, List, [], ◌∷◌, refl, sym, ap, ◌∙◌, subst, arith}
+use Rattle.std.proofs.Common.{◌≡◌, ℕ, ◌<◌, ◌≤◌, ◌⊎◌, inl, inr, true, false, List, ap, arith}
 use Rattle.std.specs.Prelude.{Option, Some, None}
 use Rattle.far_base.specs.declared.plan.OpLine.{OpLine}
 use Rattle.far_base.specs.declared.log.LogLine.{LogLine}
 use Rattle.far_base.specs.declared.log.LogEntry.{LogEntry}
-use Rattle.far_base.specs.declared.log.LogEntry.TheVariants.{Sent, Numbered, Emitted, Answered}
-use Rattle.far_model.specs.Members.{Among, Pairs}
-use Rattle.far_model.specs.Log.{At, Answer, is_read, is_on, sending, numbering, emission, answering, exposed, IsTakingMoment}
-use Rattle.far_model.specs.Coherent.{Earlier, WasSent, WasWritten, IsNumbering, HasOwnNumber, IsEmission, IsAnswering, IsCoherent}
+use Rattle.far_base.specs.declared.log.LogEntry.TheVariants.{Numbered, Emitted, Answered}
+use Rattle.far_model.specs.Log.{At, Answer, is_read, sending, numbering, emission, answering, exposed}
+use Rattle.far_model.specs.Coherent.{Earlier, WasWritten, IsNumbering, IsEmission, IsAnswering, IsCoherent}
 use Rattle.far_model.proofs.Members.{pairs_among}
-use Rattle.far_laws.proofs.Told.{sending_line, numbering_line, emission_line, answering_line, sending_is, numbering_is, emission_is}
-use Rattle.far_laws.proofs.Exposed.{Shows, exposed_shown, exposed_most, on_true, on_sent}
+use Rattle.far_laws.proofs.Told.{numbering_line, emission_line, answering_line, sending_is, numbering_is, emission_is}
+use Rattle.far_laws.proofs.Exposed.{exposed_shown, exposed_most, on_sent}
 
 -- a numbered write: what it does, and when it was sent
 pub record Numbers (log : List LogLine) (op : ℕ) (n : At ℕ) : Type 0 where
@@ -54,14 +53,22 @@ module _ (log : List LogLine) (coherent : IsCoherent log) where
       record {
         sent = record { moment = f.sent.sent_at; what = f.sent.line };
         first = sending_is log coherent.order op f.sent.sent_at f.sent.line f.sent.sent;
-        before = f.sent.before; write = f.write; above = f.above;
+        before = f.sent.before;
+        write = f.write;
+        above = f.above;
       }
 
   written : (moment : ℕ) (key : List ℕ) (num : ℕ) (body : Option (List ℕ)) → WasWritten log moment key num body → Written log moment key num body
   written moment key num body w = record {
-    op = w.op; numbered_at = w.numbered_at; numbered = numbering_is log coherent.order w.op w.numbered_at num w.numbered; before = w.before;
-    sent = record { moment = w.sent_at; what = w.line }; first = sending_is log coherent.order w.op w.sent_at w.line w.sent;
-    write = w.write; on_key = w.on_key; same_body = w.same_body;
+    op = w.op;
+    numbered_at = w.numbered_at;
+    numbered = numbering_is log coherent.order w.op w.numbered_at num w.numbered;
+    before = w.before;
+    sent = record { moment = w.sent_at; what = w.line };
+    first = sending_is log coherent.order w.op w.sent_at w.line w.sent;
+    write = w.write;
+    on_key = w.on_key;
+    same_body = w.same_body;
   }
 
   pub emits : (op : ℕ) (e : At Answer) → emission log op ≡ Some e → Emits log op e
@@ -72,7 +79,8 @@ module _ (log : List LogLine) (coherent : IsCoherent log) where
         first = sending_is log coherent.order op f.sent.sent_at f.sent.line f.sent.sent;
         before = f.sent.before;
         source = λ p. let s = f.source p in (s.0, written e.moment f.sent.line.key e.what.num s.0 s.1, s.2);
-        unwritten = f.unwritten; read = f.read;
+        unwritten = f.unwritten;
+        read = f.read;
         write = λ w. let o = f.write w in record { own = record { moment = o.numbered_at; what = o.own }; first = numbering_is log coherent.order op o.numbered_at o.own o.numbered; within = o.within };
       }
 

@@ -1,20 +1,19 @@
 -- The places of a coherent log: what each is, that each answered operation has one, and what two of them are to one another.
-use Rattle.std.proofs.Common.{◌≡◌, ◌≢◌, ℕ, zero, suc, ◌<◌, ◌≤◌, max, ◌⊎◌, inl, inr, Bool, true, false, true≢false, leb, List, [], ◌∷◌, refl, sym, ap, ◌∙◌, subst, arith, le_trans}
+use Rattle.std.proofs.Common.{◌≡◌, ℕ, ◌<◌, ◌≤◌, max, ◌⊎◌, inl, inr, Bool, true, false, leb, List, refl, sym, ap, ◌∙◌, subst, arith, le_trans}
 use Rattle.std.specs.Prelude.{Option, Some, None, slice_get}
-use Rattle.std.specs.Bool.{MatchBool}
 use Rattle.std.proofs.lemmas.Bool.{MatchBool-at_true, MatchBool-at_false}
 use Rattle.std.proofs.lemmas.Bool.Decides.{leb_tells}
 use Rattle.std.proofs.lemmas.Option.{same_Some, none-some}
 use Rattle.far_base.specs.declared.plan.OpLine.{OpLine}
 use Rattle.far_base.specs.declared.log.LogLine.{LogLine}
 use Rattle.far_base.specs.declared.log.Placed.{Placed}
-use Rattle.far_model.specs.Members.{Among, Pairs}
+use Rattle.far_model.specs.Members.{Pairs}
 use Rattle.far_model.specs.Log.{At, Answer, is_read, sending, numbering, emission, answering, exposed, IsTakingMoment}
-use Rattle.far_model.specs.History.{Before, read_rank, IsWritePlace, IsReadPlace, IsPlace, IsHistory, Held, nothing, held_by, line_key, line_body, key_of, written_by, read_by, IsLegal, KeepsRealTimeOrder}
+use Rattle.far_model.specs.History.{Before, IsWritePlace, IsReadPlace, IsPlace, IsHistory, held_by, line_key, line_body, key_of, written_by, IsLegal, KeepsRealTimeOrder}
 use Rattle.far_model.specs.Coherent.{IsCoherent}
 use Rattle.far_model.proofs.Members.{among_at, pairs_at}
-use Rattle.far_laws.proofs.Exposed.{exposed_rises, taking_moment, taking_unique}
-use Rattle.far_laws.proofs.Facts.{Numbers, Written, Owns, Emits, numbers, emits, answers, one_write, shown_numbered, emission_shows}
+use Rattle.far_laws.proofs.Exposed.{exposed_rises, taking_moment}
+use Rattle.far_laws.proofs.Facts.{Numbers, Written, Emits, numbers, emits, answers, one_write, shown_numbered, emission_shows}
 use Rattle.far_laws.proofs.Walk.{Seen, Fits, legal, before_strict}
 
 -- the place of a write
@@ -67,8 +66,14 @@ module _ (log : List LogLine) (coherent : IsCoherent log) where
       let f : Numbers log x.op p.numbered = numbers log coherent x.op p.numbered p.first in
       let same : h.sent ≡ f.sent = same_Some _ _ (sym h.first ∙ f.first) in
       record {
-        numbered = p.numbered; numbered_first = p.first; own = p.own; sent = f.sent; first = f.first; before = f.before;
-        is_write = f.write; above = omega (arith, f.above, p.own);
+        numbered = p.numbered;
+        numbered_first = p.first;
+        own = p.own;
+        sent = f.sent;
+        first = f.first;
+        before = f.before;
+        is_write = f.write;
+        above = omega (arith, f.above, p.own);
         taking = subst (λ (s : At OpLine). IsTakingMoment log s.what.key x.num x.moment) same p.taking;
       }
 
@@ -79,7 +84,13 @@ module _ (log : List LogLine) (coherent : IsCoherent log) where
       let same : h.sent ≡ f.sent = same_Some _ _ (sym h.first ∙ f.first) in
       let is : is_read f.sent.what.op ≡ true = ap (λ (s : At OpLine). is_read s.what.op) (sym same) ∙ sym h.kind ∙ r in
       record {
-        emitted = p.emitted; emitted_first = p.first; answer = p.read; sent = f.sent; first = f.first; before = f.before; taken_at = p.taken_at;
+        emitted = p.emitted;
+        emitted_first = p.first;
+        answer = p.read;
+        sent = f.sent;
+        first = f.first;
+        before = f.before;
+        taken_at = p.taken_at;
         taking = subst (λ (s : At OpLine). IsTakingMoment log s.what.key y.num p.taken_at) same p.taking;
         moment = p.moment ∙ ap (λ (s : At OpLine). max p.taken_at s.moment) same;
         least = omega (arith, f.read is, p.read);
@@ -102,6 +113,7 @@ module _ (log : List LogLine) (coherent : IsCoherent log) where
     where
       wx : WriteAt log x
       wx = write_at x hx w
+
       go : ((leb x.num y.num ≡ true) × (x.num ≤ y.num)) ⊎ ((leb x.num y.num ≡ false) × (y.num < x.num)) → (r : Bool) → y.read ≡ r → x.num ≤ y.num
       go (inl p) r e = p.1
       go (inr p) false e =
@@ -133,9 +145,13 @@ module _ (log : List LogLine) (coherent : IsCoherent log) where
       record {
         write = x;
         placed = record {
-          sent = s.sent; first = s.first; kind = sym s.write;
+          sent = s.sent;
+          first = s.first;
+          kind = sym s.write;
           stands = record {
-            numbered = record { moment = s.numbered_at; what = y.num }; first = s.numbered; own = refl;
+            numbered = record { moment = s.numbered_at; what = y.num };
+            first = s.numbered;
+            own = refl;
             taking = subst (λ key. IsTakingMoment log key y.num ry.taken_at) (sym s.on_key) ry.taking;
           };
         };
@@ -151,7 +167,9 @@ module _ (log : List LogLine) (coherent : IsCoherent log) where
 
   pub fits : Fits log (IsPlace log)
   fits = record {
-    up = up; from = from; one = one;
+    up = up;
+    from = from;
+    one = one;
     zero = λ y h r e. let ry = read_at y h r in ap held_by ry.emitted_first ∙ (λ i. record { num = (sym ry.answer ∙ e) i; body = ry.unwritten e i });
     number = λ y h r. let ry = read_at y h r in ap (λ (o : Option (At Answer)). (held_by o).num) ry.emitted_first ∙ sym ry.answer;
     positive = λ x h w. (write_at x h w).above;
@@ -210,9 +228,11 @@ module _ (log : List LogLine) (coherent : IsCoherent log) where
   pub write_placed : (op moment : ℕ) (n : At ℕ) → numbering log op ≡ Some n → n.what ≤ exposed log (key_of log op) moment → (place : Placed) × (place.op ≡ op) × IsPlace log place
   write_placed op moment n h k =
       let f = numbers log coherent op n h in
-      let t = taking_moment log f.sent.what.key n.what moment (subst (λ key. n.what ≤ exposed log key moment) (ap line_key f.first) k) in
-      (record { moment = t.0; num = n.what; read = false; op = op }, refl,
-       record { sent = f.sent; first = f.first; kind = sym f.write; stands = record { numbered = n; first = h; own = refl; taking = t.1 } })
+      let t = taking_moment log f.sent.what.key n.what moment (subst (λ key. n.what ≤ exposed log key moment) (ap line_key f.first) k) in (
+        record { moment = t.0; num = n.what; read = false; op = op },
+        refl,
+        record { sent = f.sent; first = f.first; kind = sym f.write; stands = record { numbered = n; first = h; own = refl; taking = t.1 } },
+      )
 
   -- so does an answered operation
   pub answered_placed : (op : ℕ) (a : At ℕ) → answering log op ≡ Some a → (place : Placed) × (place.op ≡ op) × IsPlace log place
@@ -223,11 +243,14 @@ module _ (log : List LogLine) (coherent : IsCoherent log) where
         where
           shown : e.what.num ≤ exposed log f.sent.what.key e.moment
           shown = emission_shows log coherent op e f.sent k f.first
+
           go : (r : Bool) → is_read f.sent.what.op ≡ r → (place : Placed) × (place.op ≡ op) × IsPlace log place
           go true r =
-              let t = taking_moment log f.sent.what.key e.what.num e.moment shown in
-              (record { moment = max t.0 f.sent.moment; num = e.what.num; read = true; op = op }, refl,
-               record { sent = f.sent; first = f.first; kind = sym r; stands = record { emitted = e; first = k; read = refl; taken_at = t.0; taking = t.1; moment = refl; answered = λ none. absurd (none-some a (sym none ∙ h)) } })
+              let t = taking_moment log f.sent.what.key e.what.num e.moment shown in (
+                record { moment = max t.0 f.sent.moment; num = e.what.num; read = true; op = op },
+                refl,
+                record { sent = f.sent; first = f.first; kind = sym r; stands = record { emitted = e; first = k; read = refl; taken_at = t.0; taking = t.1; moment = refl; answered = λ none. absurd (none-some a (sym none ∙ h)) } },
+              )
           go false w =
               let o = f.write w in
               write_placed op e.moment o.own o.first (subst (λ key. o.own.what ≤ exposed log key e.moment) (sym (ap line_key f.first)) (le_trans o.within shown))

@@ -1,12 +1,12 @@
 -- The first line that tells something, and the line that an operation has.
-use Rattle.std.proofs.Common.{◌≡◌, ◌≢◌, ℕ, ◌⊎◌, inl, inr, Bool, true, false, List, [], ◌∷◌, refl, sym, ap, ◌∙◌, subst, eq-eqb, eqb-true}
-use Rattle.std.specs.Prelude.{Option, Some, None, ◌==◌, ◌<◌, ◌≤◌, if◌then◌else◌}
+use Rattle.std.proofs.Common.{◌≡◌, ℕ, inl, inr, Bool, true, false, List, [], ◌∷◌, refl, sym, subst, eq-eqb, eqb-true}
+use Rattle.std.specs.Prelude.{Option, Some, None, ◌==◌, if◌then◌else◌}
 use Rattle.std.proofs.lemmas.Option.{same_Some}
 use Rattle.far_base.specs.declared.plan.OpLine.{OpLine}
 use Rattle.far_base.specs.declared.log.LogLine.{LogLine}
 use Rattle.far_base.specs.declared.log.LogEntry.{LogEntry}
-use Rattle.far_base.specs.declared.log.LogEntry.TheVariants.{Sent, Numbered, Emitted, Answered, Admitted, Evicted, Kept, Snapped, SnapItem, Stopped, Recovered, RecItem}
-use Rattle.far_model.specs.Members.{Among, Each, Pairs}
+use Rattle.far_base.specs.declared.log.LogEntry.TheVariants.{Sent, Numbered, Emitted, Answered}
+use Rattle.far_model.specs.Members.{Among, Pairs}
 use Rattle.far_model.specs.Log.{At, Answer, first_told, or_later, sent_by, numbered_by, emitted_by, answered_by, sending, numbering, emission, answering}
 use Rattle.far_model.specs.Coherent.{Rises, Earlier}
 use Rattle.far_model.proofs.Members.{each_among}

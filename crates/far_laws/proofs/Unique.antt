@@ -1,10 +1,9 @@
 -- A log has one history, and a history one final map.
 use Rattle.std.proofs.Common.{◌≡◌, ℕ, ◌<◌, ◌≤◌, max, ◌⊎◌, inl, inr, Bool, true, false, leb, List, refl, sym, ap, ◌∙◌, subst, arith}
-use Rattle.std.specs.Prelude.{Option, Some, None, slice_get}
+use Rattle.std.specs.Prelude.{Some, None, slice_get}
 use Rattle.std.specs.Ordering.{nat_cmp, ordering_reverse}
 use Rattle.std.specs.Cmp.Lexicographic.{slice_cmp}
-use Rattle.std.specs.declared.cmp.Ordering.{Ordering}
-use Rattle.std.specs.declared.cmp.Ordering.TheVariants.{Less, Equal, Greater}
+use Rattle.std.specs.declared.cmp.Ordering.TheVariants.{Less, Greater}
 use Rattle.std.proofs.lemmas.Bool.{MatchBool-at_true, MatchBool-at_false}
 use Rattle.std.proofs.lemmas.Bool.Decides.{leb_tells}
 use Rattle.std.proofs.lemmas.Cmp.{nat_list_cmp_total}
@@ -13,7 +12,7 @@ use Rattle.far_base.specs.declared.plan.OpLine.{OpLine}
 use Rattle.far_base.specs.declared.record.Record.{Record}
 use Rattle.far_base.specs.declared.log.LogLine.{LogLine}
 use Rattle.far_base.specs.declared.log.Placed.{Placed}
-use Rattle.far_model.specs.Members.{Among, Pairs}
+use Rattle.far_model.specs.Members.{Pairs}
 use Rattle.far_model.specs.Log.{At, Answer, is_read, sending, numbering, emission, IsTakingMoment}
 use Rattle.far_model.specs.History.{Before, IsWritePlace, IsReadPlace, IsPlace, IsHistory, IsKeyBefore, IsFinalMap, last_write, held_in}
 use Rattle.far_model.proofs.Members.{among_at, pairs_at, pairs_unique}
@@ -26,10 +25,13 @@ same_place log x y hx hy op = go x.read refl
   where
     sent : hx.sent ≡ hy.sent
     sent = same_Some _ _ (sym hx.first ∙ ap (sending log) op ∙ hy.first)
+
     kind : x.read ≡ y.read
     kind = hx.kind ∙ ap (λ (s : At OpLine). is_read s.what.op) sent ∙ sym hy.kind
+
     takes : (a : ℕ) → x.num ≡ y.num → IsTakingMoment log hx.sent.what.key x.num a → IsTakingMoment log hy.sent.what.key y.num a
     takes a num t = subst (λ (s : At OpLine). IsTakingMoment log s.what.key y.num a) sent (subst (λ n. IsTakingMoment log hx.sent.what.key n a) num t)
+
     go : (r : Bool) → x.read ≡ r → x ≡ y
     go false r =
         let px = MatchBool-at_false (IsReadPlace log hx.sent.moment hx.sent.what x) (IsWritePlace log hx.sent.what x) r hx.stands in
@@ -53,6 +55,7 @@ stands_once R strict xs ordered i j x y p q same = go (leb_tells i j) (leb_tells
     not_before k l z w m n e lt =
         let r : R z z = subst (λ v. R z v) (sym e) (pairs_at R z w xs k l ordered m n lt) in
         strict z z r r
+
     go : ((leb i j ≡ true) × (i ≤ j)) ⊎ ((leb i j ≡ false) × (j < i)) → ((leb j i ≡ true) × (j ≤ i)) ⊎ ((leb j i ≡ false) × (i < j)) → i ≡ j
     go (inl a) (inl b) = omega (arith, a.1, b.1)
     go (inr a) b = absurd (not_before j i y x q p (sym same) a.1)

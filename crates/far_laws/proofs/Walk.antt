@@ -1,13 +1,13 @@
 -- From facts on pairs of places to the walk over the history with a map.
-use Rattle.std.proofs.Common.{◌≡◌, ◌≢◌, ℕ, zero, suc, ◌<◌, ◌≤◌, ◌⊎◌, inl, inr, Bool, true, false, true≢false, leb, List, [], ◌∷◌, refl, sym, ap, ◌∙◌, subst, arith}
-use Rattle.std.specs.Prelude.{Option, Some, None, if◌then◌else◌}
+use Rattle.std.proofs.Common.{◌≡◌, ℕ, ◌<◌, ◌≤◌, ◌⊎◌, inl, inr, Bool, true, false, true≢false, leb, List, [], ◌∷◌, refl, sym, ap, ◌∙◌, subst, arith}
+use Rattle.std.specs.Prelude.{if◌then◌else◌}
 use Rattle.std.specs.Bool.{MatchBool}
 use Rattle.std.proofs.lemmas.Bool.Decides.{leb_tells}
 use Rattle.far_base.specs.declared.log.LogLine.{LogLine}
 use Rattle.far_base.specs.declared.log.Placed.{Placed}
-use Rattle.far_model.specs.Members.{Among, Each, Pairs}
+use Rattle.far_model.specs.Members.{Among, Pairs}
 use Rattle.far_model.specs.Log.{same_key}
-use Rattle.far_model.specs.History.{Before, Held, nothing, key_of, written_by, read_by, with_write, IsLegalFrom, read_rank}
+use Rattle.far_model.specs.History.{Before, Held, nothing, key_of, written_by, read_by, with_write, IsLegalFrom}
 use Rattle.far_model.proofs.Members.{each_among}
 use Rattle.far_laws.proofs.Exposed.{same_key_true, same_key_refl}
 
@@ -56,6 +56,7 @@ module _ (log : List LogLine) (D : Placed → Type 0) (fits : Fits log D) where
     where
       least : (s : SetBy log Past held (key_of log y.op)) → s.write.num ≤ y.num
       least s = fits.up s.write y (sound s.write s.past) d s.is_write s.on_key (before s.write s.past)
+
       go : ((leb 1 y.num ≡ true) × (1 ≤ y.num)) ⊎ ((leb 1 y.num ≡ false) × (y.num < 1)) → (held ≡ nothing) ⊎ SetBy log Past held (key_of log y.op) → read_by log y ≡ held
       go (inr p) (inl e) = fits.zero y d r (omega (arith, p.1)) ∙ sym e
       go (inr p) (inr s) = absurd (omega (arith, p.1, least s, fits.positive s.write (sound s.write s.past) s.is_write))
@@ -94,6 +95,7 @@ module _ (log : List LogLine) (D : Placed → Type 0) (fits : Fits log D) where
               let same : key ≡ key_of log p.op = sym f ∙ ap (λ (q : Placed). key_of log q.op) k in
               let yes : same_key key (key_of log p.op) ≡ true = subst (λ z. same_key key z ≡ true) same (same_key_refl key) in
               absurd (true≢false (sym yes ∙ e))
+
           whose : (map key ≡ nothing) ⊎ SetBy log Past (map key) key → (map key ≡ nothing) ⊎ SetBy log (λ x. Past x ⊎ (x ≡ p)) (map key) key
           whose (inl k) = inl k
           whose (inr s) = inr (record { write = s.write; past = inl s.past; is_write = s.is_write; on_key = s.on_key; same = s.same })
@@ -105,6 +107,7 @@ module _ (log : List LogLine) (D : Placed → Type 0) (fits : Fits log D) where
       most : (x : Placed) → Past x ⊎ (x ≡ p) → x.read ≡ false → key_of log x.op ≡ key → x.num ≤ held.num
       most x (inl k) w f = knows.most x k w f
       most x (inr k) w f = absurd (true≢false (sym r ∙ sym (ap (λ (q : Placed). q.read) k) ∙ w))
+
       whose : (held ≡ nothing) ⊎ SetBy log Past held key → (held ≡ nothing) ⊎ SetBy log (λ x. Past x ⊎ (x ≡ p)) held key
       whose (inl k) = inl k
       whose (inr s) = inr (record { write = s.write; past = inl s.past; is_write = s.is_write; on_key = s.on_key; same = s.same })
@@ -114,34 +117,40 @@ module _ (log : List LogLine) (D : Placed → Type 0) (fits : Fits log D) where
   walk Past [] map sound there complete before ordered knows = tt
   walk Past (p ∷ ps) map sound there complete before ordered knows =
       go p.read refl (λ known. walk (λ x. Past x ⊎ (x ≡ p)) ps map sound' (λ x h. there x (inr h)) complete' before' ordered.1 known)
-        (λ known. walk (λ x. Past x ⊎ (x ≡ p)) ps (with_write map (key_of log p.op) (written_by log p)) sound' (λ x h. there x (inr h)) complete' before' ordered.1 known)
+      (λ known. walk (λ x. Past x ⊎ (x ≡ p)) ps (with_write map (key_of log p.op) (written_by log p)) sound' (λ x h. there x (inr h)) complete' before' ordered.1 known)
     where
       sound' : (x : Placed) → Past x ⊎ (x ≡ p) → D x
       sound' x (inl h) = sound x h
       sound' x (inr e) = subst D (sym e) (there p (inl refl))
+
       moved : (x : Placed) → Past x ⊎ Among x (p ∷ ps) → (Past x ⊎ (x ≡ p)) ⊎ Among x ps
       moved x (inl h) = inl (inl h)
       moved x (inr (inl e)) = inl (inr e)
       moved x (inr (inr h)) = inr h
+
       complete' : (x : Placed) → D x → (Past x ⊎ (x ≡ p)) ⊎ Among x ps
       complete' x d = moved x (complete x d)
+
       before' : (x y : Placed) → Past x ⊎ (x ≡ p) → Among y ps → Before x y
       before' x y (inl h) k = before x y h (inr k)
       before' x y (inr e) k = subst (λ z. Before z y) (sym e) (each_among (Before p) y ps ordered.0 k)
+
       -- a write that stands before is past
       passed : (x : Placed) → x.read ≡ false → Before x p → Past x ⊎ Among x (p ∷ ps) → p.read ≡ true → Past x
       passed x w b (inl h) r = h
       passed x w b (inr (inl e)) r = absurd (true≢false (sym r ∙ sym (ap (λ (q : Placed). q.read) e) ∙ w))
       passed x w b (inr (inr h)) r = absurd (before_strict x p b (each_among (Before p) x ps ordered.0 h))
+
       go : (b : Bool) → p.read ≡ b → (((key : List ℕ) → Knows log (λ x. Past x ⊎ (x ≡ p)) (map key) key) → IsLegalFrom log map ps)
           → (((key : List ℕ) → Knows log (λ x. Past x ⊎ (x ≡ p)) (with_write map (key_of log p.op) (written_by log p) key) key) → IsLegalFrom log (with_write map (key_of log p.op) (written_by log p)) ps)
           → MatchBool b ((read_by log p ≡ map (key_of log p.op)) × IsLegalFrom log map ps) (IsLegalFrom log (with_write map (key_of log p.op) (written_by log p)) ps)
-      go true r f g =
-          (read_held Past p (map (key_of log p.op)) sound (λ x h. before x p h (inl refl)) (λ x d w b. passed x w b (complete x d) r) (there p (inl refl)) r (knows (key_of log p.op)),
-           f (λ key. read_known Past p (map key) key r (knows key)))
+      go true r f g = (
+        read_held Past p (map (key_of log p.op)) sound (λ x h. before x p h (inl refl)) (λ x d w b. passed x w b (complete x d) r) (there p (inl refl)) r (knows (key_of log p.op)),
+        f (λ key. read_known Past p (map key) key r (knows key)),
+      )
       go false w f g = g (write_known Past p map sound (λ x h. before x p h (inl refl)) (there p (inl refl)) w knows)
 
   pub legal : (history : List Placed) → Pairs Before history → ((x : Placed) → Among x history → D x) → ((x : Placed) → D x → Among x history) → IsLegalFrom log (λ key. nothing) history
   legal history ordered there complete =
       walk (λ x. ⊥) history (λ key. nothing) (λ x h. absurd h) there (λ x d. inr (complete x d)) (λ x y h k. absurd h) ordered
-        (λ key. record { most = λ x h r f. absurd h; whose = inl refl })
+      (λ key. record { most = λ x h r f. absurd h; whose = inl refl })
