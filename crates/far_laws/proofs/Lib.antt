@@ -4,3 +4,4 @@ pub mod Places
 pub mod Told
 pub mod Unique
 pub mod Walk
+pub mod Remembered

@@ -2,5 +2,7 @@
 #![tactic(auto)]
 
 mod logs;
+mod past;
 
 pub use logs::{all_placed, coherent_log, one_history};
+pub use past::remembered_past;
