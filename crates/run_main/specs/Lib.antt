@@ -1,3 +1,4 @@
 pub mod Number
 pub mod BaseForm
 pub mod Reading
+pub mod Status

@@ -1,6 +1,6 @@
 use crate::words::Reader;
 use far_base::{
-    Body, CLIENT_LIMIT, Config, OP_LIMIT, Op, OpLine, Plan, SERVER_LIMIT, SLOT_LIMIT,
+    Body, CLIENT_LIMIT, Config, Memory, OP_LIMIT, Op, OpLine, Plan, SERVER_LIMIT, SLOT_LIMIT,
 };
 use std::alloc::{AllocError, AllocFailed, Global};
 use std::marker::Model;
@@ -29,6 +29,14 @@ impl<T: Drop> From<AllocFailed<T>> for BaseFault {
     ghost from_gives = { λ _ e. e ≡ Memory };
 
     fn from(_refused: AllocFailed<T>) -> Self {
+        BaseFault::Memory
+    }
+}
+
+impl From<Memory> for BaseFault {
+    ghost from_gives = { λ _ e. e ≡ BaseFault.Memory };
+
+    fn from(_refused: Memory) -> Self {
         BaseFault::Memory
     }
 }

@@ -2,7 +2,14 @@
 #![tactic(auto)]
 
 mod base_form;
+mod replay;
+mod status;
+mod top;
 mod words;
 
 pub use base_form::{BaseFault, BaseWork, PICK_LIMIT, read_base};
+pub use status::Status;
+pub use top::{INPUT_LIMIT, top_calm};
 
+#[cfg(test)]
+mod tests;
