@@ -6,3 +6,5 @@ mod words;
 
 pub use base_form::{BaseFault, BaseWork, PICK_LIMIT, read_base};
 
+#[cfg(test)]
+mod tests;
