@@ -1,6 +1,6 @@
 -- What a field reads was spelled so, and what is spelled so is read.
-use Rattle.std.proofs.Common.{◌≡◌, ℕ, zero, suc, ◌+◌, ◌<◌, ◌≤◌, Bool, true, false, ◌&&◌, cond, List, [], ◌∷◌, ◌++◌, length, take, drop, refl, sym, ap, subst, ◌∙◌, append_assoc, arith}
-use Rattle.std.specs.Prelude.{Option, Some, None, nat_eq, nat_le, nat_lt, bytes_eq}
+use Rattle.std.proofs.Common.{◌≡◌, ℕ, suc, Bool, true, false, cond, List, [], ◌∷◌, ◌++◌, length, take, drop, refl, sym, ap, subst, ◌∙◌, append_assoc, arith}
+use Rattle.std.specs.Prelude.{Option, Some, None, nat_eq, bytes_eq}
 use Rattle.std.specs.List.{list_all}
 use Rattle.std.proofs.lemmas.Bool.Decides.{nat_tests}
 use Rattle.std.proofs.lemmas.List.{take_at, drop_at, take-append-drop}
@@ -139,11 +139,11 @@ visible_front (b ∷ bs) =
 
 stops : (bytes : List ℕ) (e : ℕ) (rest : List ℕ) → drop (visible_count bytes) bytes ≡ e ∷ rest → is_visible e ≡ false
 stops [] e rest h = absurd cc
-stops (b ∷ bs) e rest =
+stops (b ∷ bs) e rest given =
     elim (is_visible b) as (λ v. is_visible b ≡ v → drop (cond v (suc (visible_count bs)) 0) (b ∷ bs) ≡ e ∷ rest → is_visible e ≡ false) [
       | true ↦ λ h k. stops bs e rest k
       | false ↦ λ h k. let same : b ≡ e = cc in rw (← same) h
-    ] refl
+    ] refl given
 
 counted : (w : List ℕ) (e : ℕ) (rest : List ℕ) → list_all is_visible w ≡ true → is_visible e ≡ false → visible_count (w ++ e ∷ rest) ≡ length w
 counted [] e rest h k = rw k refl

@@ -1,3 +1,5 @@
+pub mod BaseLaws
 pub mod Fields
 pub mod Loops
 pub mod Numbers
+pub mod WordLaws

@@ -46,8 +46,12 @@ abbrev pub body_word : Option (List ℕ) → List ℕ
 body_word None = []
 body_word (Some text) = codes " =" ++ text
 
+-- the words behind the verb
+abbrev pub op_words : OpLine → List ℕ
+op_words line = decimal line.client ++ space ++ key_text line.key ++ body_word line.body ++ line_end
+
 abbrev pub op_line : OpLine → List ℕ
-op_line line = verb line.op ++ space ++ decimal line.client ++ space ++ key_text line.key ++ body_word line.body ++ line_end
+op_line line = verb line.op ++ space ++ op_words line
 
 -- numbers with one space between them, and the end of the line
 abbrev pub numbers : ℕ → List ℕ → List ℕ

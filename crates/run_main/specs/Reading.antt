@@ -1,10 +1,9 @@
 -- Reading from left to right.
-use Rattle.std.specs.Prelude.{◌≡◌, ℕ, zero, suc, ◌+◌, List, [], ◌∷◌, ◌++◌, length, take, drop, Bool, true, false, Option, Some, None, Result, Ok, Err, nat_lt, nat_le, nat_eq, bytes_eq, not, ◌&&◌, if◌then◌else◌, codes}
+use Rattle.std.specs.Prelude.{◌≡◌, ℕ, zero, suc, List, [], ◌∷◌, ◌++◌, length, take, drop, Bool, true, false, Option, Some, None, Result, Ok, Err, nat_lt, nat_le, nat_eq, bytes_eq, ◌&&◌, if◌then◌else◌, codes}
 use Rattle.far_base.specs.Key.{is_visible, is_key_text}
 use Rattle.far_base.specs.Padded.{padded}
-use Rattle.far_base.specs.PlanView.{PlanView}
 use Rattle.far_base.specs.declared.plan.Config.{Config}
-use Rattle.far_base.specs.declared.plan.Op.TheVariants.{Get, Put, Del}
+use Rattle.far_base.specs.declared.plan.Op.TheVariants.{Get, Put}
 use Rattle.far_base.specs.declared.plan.OpLine.{OpLine}
 use Rattle.far_base.specs.declared.plan.TheConstants.{CLIENT_LIMIT, SERVER_LIMIT, SLOT_LIMIT, OP_LIMIT}
 use Rattle.far_base.specs.declared.key.TheConstants.{KEY_LENGTH}

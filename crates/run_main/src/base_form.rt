@@ -1,8 +1,6 @@
 use crate::words::Reader;
-use far_base::{
-    Body, CLIENT_LIMIT, Config, Memory, OP_LIMIT, Op, OpLine, Plan, SERVER_LIMIT, SLOT_LIMIT,
-};
-use std::alloc::{AllocError, AllocFailed, Global};
+use far_base::{Body, CLIENT_LIMIT, Config, OP_LIMIT, Op, OpLine, Plan, SERVER_LIMIT, SLOT_LIMIT};
+use std::alloc::{AllocFailed, Global};
 use std::marker::Model;
 
 /// The greatest number of picks that a workload lists.
@@ -15,14 +13,6 @@ pub enum BaseFault {
     Memory,
     /// The text is not of the base form, or passes a limit.
     NotBase,
-}
-
-impl From<AllocError> for BaseFault {
-    ghost from_gives = { λ _ e. e ≡ Memory };
-
-    fn from(_refused: AllocError) -> Self {
-        BaseFault::Memory
-    }
 }
 
 impl<T: Drop> From<AllocFailed<T>> for BaseFault {
@@ -57,7 +47,7 @@ impl Model for BaseWork {
     ghost view = { λ w. record { plan = w.plan; picks = w.picks.items } };
 }
 
-ghost use Rattle.std.specs.Prelude.{◌≡◌, length, IfOk};
+ghost use Rattle.std.specs.Prelude.{◌≡◌, IfOk};
 ghost use Rattle.far_base.specs.Limits.{IsPlan};
 ghost use Rattle.run_main.specs.declared.base_form.BaseFault.TheVariants.{Memory, NotBase};
 ghost use Rattle.run_main.specs.BaseForm.{WorkView, IsBaseForm, IsReadAs};

@@ -1,10 +1,10 @@
-use far_base::{BODY_LIMIT, Body, Key};
-
-ghost use Rattle.std.specs.Prelude.{◌≡◌, length, ◌≤◌, ◌<◌, ◌+◌, IfSome, IsTrue};
+ghost use Rattle.std.specs.Prelude.{◌≡◌, ◌≤◌, length, IsTrue};
 ghost use Rattle.std.specs.List.{list_all};
 ghost use Rattle.far_base.specs.Key.{is_visible};
 ghost use Rattle.run_main.specs.Number.{is_number, is_digit, value_from};
-ghost use Rattle.run_main.specs.Reading.{Reads, Strips, Parses, visible_count, cut_at, word_to, literal_at, number_of, number_to, key_to, body_to, body_of, size_line, client_to, pick_at};
+ghost use Rattle.run_main.specs.Reading.{Reads, Strips, Parses, visible_count, cut_at, word_to, literal_at, number_of, number_to, key_to, body_of, body_to, size_line, client_to, pick_at};
+
+use far_base::{Body, Key};
 
 /// What is left of a text that is read from its front.
 #[derive(Drop)]
@@ -38,10 +38,7 @@ fn are_digits(word: &[u8]) -> bool
 fn is_number(word: &[u8]) -> bool
     ensures { result ≡ is_number word.now }
 {
-    1 <= word.len()
-        && word.len() <= 19
-        && (word.len() == 1 || word[0] != b'0')
-        && are_digits(word)
+    1 <= word.len() && word.len() <= 19 && (word.len() == 1 || word[0] != b'0') && are_digits(word)
 }
 
 fn value(word: &[u8]) -> u64

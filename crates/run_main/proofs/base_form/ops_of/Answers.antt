@@ -1,6 +1,5 @@
-use Rattle.std.proofs.Common.{◌≡◌, ◌++◌, ◌∷◌, [], sym, ◌∙◌}
-use Rattle.run_main.specs.Reading.{ops_at}
-use Rattle.run_main.proofs.Loops.{with_front, ops_go_on, ops_fail, ops_done, ops_over}
+use Rattle.std.proofs.Common.{sym, ◌∙◌}
+use Rattle.run_main.proofs.Loops.{ops_go_on, ops_fail, ops_done, ops_over}
 use Rattle.run_main.proofs.base_form.ops_of.Goals as goal
 
 pub returns-then-ops_end : goal.returns-then-ops_end

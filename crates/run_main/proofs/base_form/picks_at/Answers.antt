@@ -1,7 +1,4 @@
-use Rattle.std.proofs.Common.{◌≡◌, ◌++◌, ◌∷◌, [], sym, ◌∙◌, ap}
-use Rattle.std.specs.Prelude.{Some, None, false, true}
-use Rattle.run_main.specs.Reading.{pick_at, picks_at}
-use Rattle.run_main.proofs.Loops.{with_front, picks_go_on, picks_end, picks_fail, picks_over}
+use Rattle.run_main.proofs.Loops.{picks_go_on, picks_end, picks_fail, picks_over}
 use Rattle.run_main.proofs.base_form.picks_at.Goals as goal
 
 pub returns-in_default : goal.returns-in_default
