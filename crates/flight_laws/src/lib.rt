@@ -1,0 +1,7 @@
+//! The laws of flight and work: functions with no code, whose contracts are what holds in every
+//! run of the machine of what is on its way, and of the work that is left.
+#![tactic(auto)]
+
+mod uncached;
+
+pub use uncached::{uncached_passes, uncached_runs};
