@@ -23,3 +23,11 @@ pub set-replicate : {A : Type 0} (n i : ℕ) (a : A) → set (replicate n a) i a
 set-replicate zero i a = refl
 set-replicate (suc n) zero a = refl
 set-replicate (suc n) (suc i) a = ap (λ xs. a ∷ xs) (set-replicate n i a)
+
+-- a part that the new element shares with the old one is the same of all
+pub set_field : {A B : Type 0} (f : A → B) (xs : List A) (i : ℕ) (x d : A) → f x ≡ f (get_or xs i d) → (c : ℕ) → f (get_or (set xs i x) c d) ≡ f (get_or xs c d)
+set_field f [] i x d e c = refl
+set_field f (y ∷ ys) zero x d e zero = e
+set_field f (y ∷ ys) zero x d e (suc c) = refl
+set_field f (y ∷ ys) (suc i) x d e zero = refl
+set_field f (y ∷ ys) (suc i) x d e (suc c) = set_field f ys i x d e c
