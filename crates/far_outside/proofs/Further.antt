@@ -1,6 +1,6 @@
 -- A source that is read in several calls.
-use Rattle.std.proofs.Common.{◌≡◌, ℕ, List, [], ◌++◌, take, ap, ◌∙◌, sym, append_assoc}
-use Rattle.std.specs.Prelude.{Option, None, Some, Result, Ok, Err, ⊤}
+use Rattle.std.proofs.Common.{ℕ, List, ◌++◌, take, ap, ◌∙◌, sym, append_assoc}
+use Rattle.std.specs.Prelude.{Option, None, Some, Result, Ok, Err}
 use Rattle.far_outside.specs.Bytes.{Takes}
 use Rattle.far_outside.specs.Reading.{HasRead, IsFurther}
 

@@ -1,10 +1,9 @@
 -- A piece that a writer takes in several calls.
-use Rattle.std.proofs.Common.{◌≡◌, ℕ, ◌≤◌, List, [], ◌++◌, length, take, drop, refl, sym, ap, ◌∙◌, arith, subst, append_assoc, append-nil}
-use Rattle.std.specs.Prelude.{Option, None, Some, Result, Ok, Err, ⊤}
+use Rattle.std.proofs.Common.{◌≡◌, ℕ, List, [], ◌++◌, length, take, drop, refl, sym, ap, ◌∙◌, arith, append_assoc, append-nil}
+use Rattle.std.specs.Prelude.{Option, None, Some, Ok, Err, ⊤}
 use Rattle.std.proofs.lemmas.List.{length-append, take-append-drop, take_at}
 use Rattle.std.specs.Io.KnownBytes.{Appends, Keeps}
-use Rattle.far_outside.specs.declared.sink.SinkFault.{SinkFault}
-use Rattle.far_outside.specs.declared.sink.SinkFault.TheVariants.{Memory, Failed}
+use Rattle.far_outside.specs.declared.sink.SinkFault.TheVariants.{Failed}
 use Rattle.far_outside.specs.Bytes.{Puts}
 
 -- a front of the piece was appended and this is the rest
@@ -21,10 +20,11 @@ pub put_more : (a b c : Option (List ℕ)) (piece rest : List ℕ) (n : ℕ) →
 put_more None b c piece rest n h e = tt
 put_more (Some x) None c piece rest n h e = absurd h
 put_more (Some x) (Some y) None piece rest n h e = absurd e
-put_more (Some x) (Some y) (Some z) piece rest n h e =
-    (h.0 ++ take n rest,
-    h.1 ∙ ap (λ (l : List ℕ). h.0 ++ l) (sym (take-append-drop n rest)) ∙ sym (append_assoc h.0 (take n rest) (drop n rest)),
-    e ∙ ap (λ (l : List ℕ). l ++ take n rest) h.2 ∙ append_assoc x h.0 (take n rest))
+put_more (Some x) (Some y) (Some z) piece rest n h e = (
+  h.0 ++ take n rest,
+  h.1 ∙ ap (λ (l : List ℕ). h.0 ++ l) (sym (take-append-drop n rest)) ∙ sym (append_assoc h.0 (take n rest) (drop n rest)),
+  e ∙ ap (λ (l : List ℕ). l ++ take n rest) h.2 ∙ append_assoc x h.0 (take n rest),
+)
 
 pub put_front : (a b c : Option (List ℕ)) (piece rest : List ℕ) → HasPut a b piece rest → Keeps b c → Puts {T = Unit {0}} a c piece (Err Failed)
 put_front None b c piece rest h e = tt

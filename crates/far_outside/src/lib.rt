@@ -3,6 +3,7 @@
 #![tactic(auto)]
 
 mod clean;
+mod faults;
 mod fill;
 mod listed;
 mod reading;

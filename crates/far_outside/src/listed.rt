@@ -1,3 +1,4 @@
+use crate::faults::one_more;
 use crate::fill::fill;
 use crate::sink::{Sink, SinkFault};
 use crate::source::{Failed, Source};
@@ -86,9 +87,9 @@ impl Source for MemSource {
         ensures same { self.new.fails ≡ self.old.fails }
         ensures listed { IsErr result ↔ IsTrue (is_listed self.old.fails self.new.calls) }
     {
-        self.calls = self.calls.saturating_add(1);
+        self.calls = one_more(self.calls);
         if self.fails.contains(&self.calls) {
-            self.faults = self.faults.saturating_add(1);
+            self.faults = one_more(self.faults);
             return Err(Failed);
         }
         let count = fill(&self.bytes[self.at..], buf);
@@ -138,9 +139,9 @@ impl Sink for MemSink {
         ensures listed { IsErrOf result SinkFault.Failed ↔ IsTrue (is_listed self.old.fails self.new.calls) }
         ensures nothing { OnErr result (self.new.written ≡ self.old.written) }
     {
-        self.calls = self.calls.saturating_add(1);
+        self.calls = one_more(self.calls);
         if self.fails.contains(&self.calls) {
-            self.faults = self.faults.saturating_add(1);
+            self.faults = one_more(self.faults);
             return Err(SinkFault::Failed);
         }
         self.bytes.extend_from_slice(piece)?;

@@ -1,9 +1,9 @@
-use crate::source::{Failed, Source};
-use std::alloc::{AllocError, Global};
-
 ghost use Rattle.std.specs.Prelude.{◌≡◌, ◌≤◌, length, IfOk, IfSome, OnErr, IsErrOf};
 ghost use Rattle.far_outside.specs.Faults.{Rose};
 ghost use Rattle.far_outside.specs.Reading.{HasRead, HasReadAll, IsFurther, HadMore, Settles};
+
+use crate::source::{Failed, Source};
+use std::alloc::{AllocError, Global};
 
 /// Why reading to the end stopped.
 #[derive(Clone, Copy, Debug, PartialEq, Eq)]
@@ -40,11 +40,7 @@ impl From<Failed> for ReadStop {
 /// where the count of faults rose in this call or stands at its greatest. After an error the source
 /// is somewhere further on.
 #[tactic(auto, using(crate::proofs::Further::further_on))]
-pub fn read_all<S: Source>(
-    alloc: Global,
-    source: &mut S,
-    most: u32,
-) -> Result<Vec<u8>, ReadStop>
+pub fn read_all<S: Source>(alloc: Global, source: &mut S, most: u32) -> Result<Vec<u8>, ReadStop>
     ensures whole { IfOk result (λ bytes. HasReadAll (S.left source.old) (S.left source.new) bytes.items) }
     ensures short { IfOk result (λ bytes. length bytes.items ≤ most) }
     ensures large { IsErrOf result ReadStop.TooLarge → HadMore (S.left source.old) most }

@@ -1,8 +1,8 @@
-use std::alloc::AllocError;
-
 ghost use Rattle.std.specs.Prelude.{◌≡◌, ℕ, List, ◌≤◌, Option, IsErrOf};
 ghost use Rattle.far_outside.specs.Bytes.{Puts};
 ghost use Rattle.far_outside.specs.Faults.{Rose};
+
+use std::alloc::AllocError;
 
 /// Why a write did not end.
 #[derive(Clone, Copy, Debug, PartialEq, Eq)]

@@ -1,3 +1,4 @@
+use crate::faults::one_more;
 use crate::sink::{Sink, SinkFault};
 use crate::source::{Failed, Source};
 use std::io::{Read, Write};
@@ -42,7 +43,7 @@ impl<R: Read> Source for StdSource<R> {
         match self.reader.read(buf) {
             Ok(count) => Ok(count as u32),
             Err(_) => {
-                self.faults = self.faults.saturating_add(1);
+                self.faults = one_more(self.faults);
                 Err(Failed)
             }
         }
@@ -58,13 +59,20 @@ impl<W: Write> StdSink<W> {
         StdSink { writer, faults: 0 }
     }
 
+    /// The writer, with what it took.
+    pub fn into_writer(self) -> W
+        ensures { ⟦<StdSink<W> as Sink>⟧.written self ≡ W.contents result }
+    {
+        self.writer
+    }
+
     fn failed(&mut self) -> SinkFault
         ensures fault { result ≡ SinkFault.Failed }
         ensures writer { self.new.writer ≡ self.old.writer }
         ensures later { self.old.faults ≤ self.new.faults }
         ensures cause { Rose self.old.faults self.new.faults }
     {
-        self.faults = self.faults.saturating_add(1);
+        self.faults = one_more(self.faults);
         SinkFault::Failed
     }
 }
