@@ -24,9 +24,12 @@ fn held_after(
             continue;
         }
         let told = table.get(place.op as usize);
-        if let Some(Told {
-            sent: Some(sent), ..
-        }) = told
+        if let Some(
+            Told {
+                sent: Some(sent),
+                ..
+            },
+        ) = told
         {
             let last = Held {
                 num: place.num,

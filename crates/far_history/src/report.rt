@@ -52,12 +52,7 @@ fn put_answer(
 }
 
 /// Writes the line of a placed operation, of which the log tells all.
-fn put_placed(
-    alloc: Global,
-    out: &mut Vec<u8>,
-    place: &Placed,
-    told: &Told,
-) -> Result<(), Memory> {
+fn put_placed(alloc: Global, out: &mut Vec<u8>, place: &Placed, told: &Told) -> Result<(), Memory> {
     if let Told {
         sent: Some(sent),
         emitted: Some(reply),

@@ -2,6 +2,7 @@ use far_base::{Body, Memory};
 use std::alloc::Global;
 
 pub(crate) const SPACE: u8 = b' ';
+
 pub(crate) const LINE_END: u8 = b'\n';
 
 /// Writes a word and the byte that ends it.
