@@ -7,3 +7,4 @@ pub mod Placing
 pub mod Rows
 pub mod Walk
 pub mod Wanted
+pub mod Writes

@@ -1,3 +1,4 @@
+pub mod LastWrites
 pub mod Marks
 pub mod Places
 pub mod RoomyLog

@@ -94,3 +94,10 @@ pub(crate) fn gather(alloc: Global, lines: &[LogLine]) -> Result<Vec<Told>, Memo
     }
     Ok(table)
 }
+
+/// When the operation was sent, and what it does.
+pub(crate) fn sending_of(table: &[Told], op: u32) -> Option<Sending>
+    ensures { result ≡ (slice_index_or table.now op unheard).sent }
+{
+    table.get(op as usize)?.sent
+}
