@@ -4,6 +4,7 @@ pub mod Keys
 pub mod Lists
 pub mod Orders
 pub mod Placing
+pub mod RowTexts
 pub mod Rows
 pub mod Walk
 pub mod Wanted
