@@ -88,7 +88,8 @@ fn a_put_and_a_get_are_reported(rt: HostRuntime) -> Result<(), Fail> {
     ];
     let log = logged(rt.alloc(), 10, &lines)?;
     let text = report_text(rt.alloc(), &log)?;
-    let wanted = b"far 1 report\nsteps 10\nhistory 2\n1 0 put a 1 =x server 1 5\n2 0 get a 1 =x server 6 10\ncontrol 0\nmap 1\na 1 =x\nend\n";
+    let wanted =
+        b"far 1 report\nsteps 10\nhistory 2\n1 0 put a 1 =x server 1 5\n2 0 get a 1 =x server 6 10\ncontrol 0\nmap 1\na 1 =x\nend\n";
     assert!(rt; text.as_slice() == wanted.as_slice());
     Ok(())
 }
@@ -102,7 +103,8 @@ fn an_unwritten_key_reads_nothing(rt: HostRuntime) -> Result<(), Fail> {
     ];
     let log = logged(rt.alloc(), 5, &lines)?;
     let text = report_text(rt.alloc(), &log)?;
-    let wanted = b"far 1 report\nsteps 5\nhistory 1\n1 0 get a 0 - server 1 5\ncontrol 0\nmap 0\nend\n";
+    let wanted =
+        b"far 1 report\nsteps 5\nhistory 1\n1 0 get a 0 - server 1 5\ncontrol 0\nmap 0\nend\n";
     assert!(rt; text.as_slice() == wanted.as_slice());
     Ok(())
 }
@@ -123,7 +125,8 @@ fn the_later_number_may_take_effect_first(rt: HostRuntime) -> Result<(), Fail> {
     ];
     let log = logged(rt.alloc(), 10, &lines)?;
     let text = report_text(rt.alloc(), &log)?;
-    let wanted = b"far 1 report\nsteps 10\nhistory 2\n1 0 put a 1 =x server 1 10\n2 1 put a 2 =y server 2 7\ncontrol 0\nmap 1\na 2 =y\nend\n";
+    let wanted =
+        b"far 1 report\nsteps 10\nhistory 2\n1 0 put a 1 =x server 1 10\n2 1 put a 2 =y server 2 7\ncontrol 0\nmap 1\na 2 =y\nend\n";
     assert!(rt; text.as_slice() == wanted.as_slice());
     Ok(())
 }
