@@ -1,0 +1,7 @@
+mod Cold
+mod Delivering
+mod Entries
+mod Lists
+mod Picking
+mod Running
+mod Scripts
