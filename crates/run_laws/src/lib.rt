@@ -1,0 +1,2 @@
+//! The laws of runs: functions with no code, whose contracts are what holds in every state of every run.
+#![tactic(auto)]
