@@ -1,8 +1,8 @@
 -- Replies of servers at the switch: the answer leaves, and the key's slot may take the record.
-use Rattle.std.proofs.Common.{◌≡◌, ◌≢◌, ℕ, zero, suc, ◌+◌, ◌<◌, ◌≤◌, max, ◌⊎◌, inl, inr, Bool, true, false, List, [], ◌∷◌, ◌++◌, length, refl, sym, ap, ◌∙◌, subst, arith, le_trans}
+use Rattle.std.proofs.Common.{◌≡◌, ◌≢◌, ℕ, zero, suc, ◌+◌, ◌<◌, ◌≤◌, max, ◌⊎◌, inl, inr, Bool, true, false, List, [], ◌∷◌, ◌++◌, length, refl, sym, ap, ◌∙◌, subst, arith, le_trans, ltb-true, ltb-false}
 use Rattle.std.specs.Prelude.{Option, Some, None, if◌then◌else◌, ◌&&◌, nat_lt, nat_le, nat_eq}
 use Rattle.std.proofs.lemmas.Option.{same_Some}
-use Rattle.std.proofs.lemmas.Bool.Decides.{leb_tells, ltb_tells, eqb_tells}
+use Rattle.std.proofs.lemmas.Bool.Decides.{leb_tells, eqb_tells}
 use Rattle.far_base.specs.PlanView.{PlanView}
 use Rattle.far_base.specs.declared.log.LogEntry.{LogEntry}
 use Rattle.far_base.specs.declared.log.LogEntry.TheVariants.{Sent, Numbered, Emitted, Answered}
@@ -77,6 +77,13 @@ tag_is (Some t) own h = go (eqb_tells t own)
     go : ((nat_eq t own ≡ true) × (t ≡ own)) ⊎ ((nat_eq t own ≡ false) × (t ≢ own)) → Some t ≡ Some own
     go (inl p) = ap Some p.1
     go (inr p) = absurd (let e = sym h ∙ p.0 in cc)
+
+ltb_tells : (a b : ℕ) → ((nat_lt a b ≡ true) × (a < b)) ⊎ ((nat_lt a b ≡ false) × (b ≤ a))
+ltb_tells a b = go (nat_lt a b) refl
+  where
+    go : (t : Bool) → nat_lt a b ≡ t → ((nat_lt a b ≡ true) × (a < b)) ⊎ ((nat_lt a b ≡ false) × (b ≤ a))
+    go true e = inl (e, ltb-true a b e)
+    go false e = inr (e, ltb-false a b e)
 
 takes : (tag : Option ℕ) (num : ℕ) (slot : SlotView) → takes_reply tag num slot ≡ true → IsNewer num slot ⊎ IsUnderTag tag num slot
 takes tag num slot h = go slot.latest refl h

@@ -27,19 +27,19 @@ Names op (Emitted other num body near) = op ≡ other
 Names op (Answered other) = op ≡ other
 Names op _ = ⊥
 
-sends_names : (op : ℕ) (e : LogEntry) → SendsOp op e → Names op e
+pub sends_names : (op : ℕ) (e : LogEntry) → SendsOp op e → Names op e
 sends_names op (Sent other line) h = h
 sends_names op _ h = absurd h
 
-numbers_names : (op : ℕ) (e : LogEntry) → NumbersOp op e → Names op e
+pub numbers_names : (op : ℕ) (e : LogEntry) → NumbersOp op e → Names op e
 numbers_names op (Numbered other num) h = h
 numbers_names op _ h = absurd h
 
-emits_names : (op : ℕ) (e : LogEntry) → EmitsOp op e → Names op e
+pub emits_names : (op : ℕ) (e : LogEntry) → EmitsOp op e → Names op e
 emits_names op (Emitted other num body near) h = h
 emits_names op _ h = absurd h
 
-answers_names : (op : ℕ) (e : LogEntry) → AnswersOp op e → Names op e
+pub answers_names : (op : ℕ) (e : LogEntry) → AnswersOp op e → Names op e
 answers_names op (Answered other) h = h
 answers_names op _ h = absurd h
 
