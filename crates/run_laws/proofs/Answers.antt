@@ -23,7 +23,7 @@ use Rattle.far_model.specs.Pass.{Passed, sent_to, reply_passes, is_tag, takes_re
 use Rattle.far_model.specs.State.{State, client_at, line_at, now, noted, stepped}
 use Rattle.far_model.specs.View.{SlotView, SwitchView, slot_at, entry_place, is_slot_of, is_taken}
 use Rattle.run_laws.proofs.Frame.{NotOn, ShowsNoMore, off_shows_each, absent_lasts, shown_lasts, shown_by_lasts, shown_within, Grows, has_own_lasts, past}
-use Rattle.run_laws.proofs.Keeps.{SendsOp, EmitsOp, AnswersOp, Absent, IsSent, AnswerStands, AdmitsOther, IsDrawn, IsTagged, ServesOp, ReadIsReplied, WriteIsReplied, IsBeingAnswered, Flies, Keeps}
+use Rattle.run_laws.proofs.Keeps.{SendsOp, EmitsOp, AnswersOp, Absent, IsSent, AnswerStands, AdmitsOther, IsDrawn, IsTagged, ServesOp, ReadIsReplied, WriteIsReplied, IsBeingAnswered, Relies, Keeps}
 use Rattle.run_laws.proofs.Requests.{Its, reach_none, reach_latest, reach_outdated, written_still, sent_still, set_passes, not_left, answering}
 use Rattle.run_laws.proofs.Slots.{IsEntry, SetsSlot, entry_is, taken_sets, with_slot_sets, both}
 use Rattle.run_laws.proofs.Step.{IsOther, AreOthers, NoteIs, GoesWell, AdmitsNone, PassesFor, passed_state, pass_keeps}
@@ -179,7 +179,7 @@ module _ (plan : PlanView) (s : State) (k : Keeps plan s) (runs : s.running ≡ 
             (λ t n m c b old under. exposes (max m (max (slot_at s.switch i).num num)) (shown_within plan s.log key (max n (slot_at s.switch i).num) (max m (max (slot_at s.switch i).num num)) (c (slot_at s.switch i) here l under) (omega (arith, b))) (omega arith))
 
   -- an answer that leaves so keeps everything
-  leaves : (answer : Packet) → ((t : State) → IsBeingAnswered plan t caller op key → Flies plan t (record { from = Switch; to = Client caller; packet = answer })) → ((t : ℕ) → AdmitsOther t answer)
+  leaves : (answer : Packet) → ((t : State) → IsBeingAnswered plan t caller op key → Relies plan t answer) → ((t : ℕ) → AdmitsOther t answer)
       → (w : SwitchView) (second : Option Out) → PassesFor plan s w note key → ((t : State) → GoesWell plan t second) → AdmitsNone second
       → Keeps plan (passed_state s rest (record { view = w; first = sent_to (Client caller) answer; second = second }) note)
   leaves answer flies none w second f goes admits =
@@ -203,7 +203,7 @@ module _ (plan : PlanView) (s : State) (k : Keeps plan s) (runs : s.running ≡ 
           }, tt)))
         (λ o n. n, tt) (tt, tt) (not_left plan s k runs rest caller op key others h.serves) (λ o n. n, tt)
 
-  pub reply_keeps : (answer : Packet) → ((t : State) → IsBeingAnswered plan t caller op key → Flies plan t (record { from = Switch; to = Client caller; packet = answer })) → ((t : ℕ) → AdmitsOther t answer)
+  pub reply_keeps : (answer : Packet) → ((t : State) → IsBeingAnswered plan t caller op key → Relies plan t answer) → ((t : ℕ) → AdmitsOther t answer)
       → Keeps plan (passed_state s rest (reply_passes s.switch tag num body (sent_to (Client caller) answer) (entry_place key s.switch)) note)
   reply_keeps answer flies none = place (entry_place key s.switch) refl
     where
@@ -218,7 +218,7 @@ module _ (plan : PlanView) (s : State) (k : Keeps plan s) (runs : s.running ≡ 
       absorbed i e taken false =
           leaves answer flies none (with_taken (with_slot s.switch i (absorbing num body (slot_at s.switch i))) i) (part_of s.switch i)
             (absorbs (with_taken (with_slot s.switch i (absorbing num body (slot_at s.switch i))) i) i e (taken_sets s.switch i (absorbing num body (slot_at s.switch i)) (entry_is key s.switch i e).within) taken)
-            (λ t. (record { to = tt; relies = tt }, λ tag. tt)) (λ tag. tt)
+            (λ t. (tt, λ tag. tt)) (λ tag. tt)
       met : (i : ℕ) → entry_place key s.switch ≡ Some i → (b : Bool) → takes_reply tag num (slot_at s.switch i) ≡ b → Keeps plan (passed_state s rest (if b
           then Rattle.far_model.specs.Pass.changes s.switch i (absorbing num body (slot_at s.switch i)) (sent_to (Client caller) answer)
           else record { view = with_slot s.switch i (raised num (slot_at s.switch i)); first = sent_to (Client caller) answer; second = None }) note)

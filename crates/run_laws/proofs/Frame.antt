@@ -17,7 +17,7 @@ use Rattle.far_model.specs.Members.{Among, Each, Pairs}
 use Rattle.far_model.specs.State.{State, client_at, line_at, now, noted}
 use Rattle.far_model.proofs.Members.{among_append_left, among_append_right, among_append, among_map, among_map_from, each_among, each_from_among, pairs_append, pairs_map}
 use Rattle.far_model.specs.View.{SlotView}
-use Rattle.run_laws.proofs.Keeps.{SendsOp, NumbersOp, EmitsOp, AnswersOp, Absent, IsSent, NumberStands, AnswerStands, LineStands, LineIs, IsDrawn, IsTagged, ServesOp, ReadIsAsked, WriteIsAsked, ReadIsForwarded, WriteIsForwarded, ReadIsReplied, WriteIsReplied, IsBeingAnswered, Relies, Flies, LeftIs, SlotIs, WasAnswered, IsOpenOrAnswered, Keeps}
+use Rattle.run_laws.proofs.Keeps.{SendsOp, NumbersOp, EmitsOp, AnswersOp, Absent, IsSent, NumberStands, AnswerStands, LineStands, LineIs, IsDrawn, IsTagged, ServesOp, ReadIsAsked, WriteIsAsked, ReadIsForwarded, WriteIsForwarded, ReadIsReplied, WriteIsReplied, IsBeingAnswered, Relies, LeftIs, SlotIs, WasAnswered, IsOpenOrAnswered, Keeps}
 
 -- an entry that tells something of the operation
 abbrev pub Names : ℕ → LogEntry → Type 0
@@ -199,7 +199,7 @@ module _ (plan : PlanView) (Mine : ℕ → Type 0) (notes : List LogEntry) (s t 
   abbrev others : (caller op : ℕ) (key : List ℕ) → (Mine op → ⊥) → ServesOp plan s caller op key → ServesOp plan t caller op key
   others caller op key o h = serves_lasts caller op key (not_mine AnswersOp answers_names op o h.unanswered) h
 
-  relies_lasts : (p : Packet) → ((caller op : ℕ) → subject p ≡ OfOperation caller op → Mine op → ⊥) → Relies plan s p → Relies plan t p
+  pub relies_lasts : (p : Packet) → ((caller op : ℕ) → subject p ≡ OfOperation caller op → Mine op → ⊥) → Relies plan s p → Relies plan t p
   relies_lasts (GetReq caller op key) o h = record {
     serves = others caller op key (o caller op refl) h.serves; read = h.read;
     unemitted = not_mine EmitsOp emits_names op (o caller op refl) h.unemitted;
@@ -242,9 +242,6 @@ module _ (plan : PlanView) (Mine : ℕ → Type 0) (notes : List LogEntry) (s t 
     serves = others caller op key (o caller op refl) h.serves; emitted = answering_lasts s.steps t.steps op past h.emitted;
   }
   relies_lasts _ o h = tt
-
-  pub flies_lasts : (m : Message) → ((caller op : ℕ) → subject m.packet ≡ OfOperation caller op → Mine op → ⊥) → Flies plan s m → Flies plan t m
-  flies_lasts m o h = record { to = h.to; relies = relies_lasts m.packet o h.relies }
 
   pub left_lasts : (c : ℕ) → (client_at t c).left ≡ (client_at s c).left → ((op : ℕ) → Among op (client_at s c).left → Mine op → ⊥) → LeftIs plan s c → LeftIs plan t c
   left_lasts c same o h = record {

@@ -155,25 +155,6 @@ Relies plan s (GetAns caller op key num body near) = IsBeingAnswered plan s call
 Relies plan s (WriteAns caller op key num kept) = IsBeingAnswered plan s caller op key
 Relies plan s _ = Unit {0}
 
--- to whom a packet goes
-abbrev pub IsFor : Config → Packet → Party → Type 0
-IsFor config (GetReq caller op key) to = to ≡ Switch
-IsFor config (WriteReq caller op key body) to = to ≡ Switch
-IsFor config (GetFwd caller op key tag) to = to ≡ Server (server_of config key)
-IsFor config (WriteFwd caller op key num body) to = to ≡ Server (server_of config key)
-IsFor config (GetRep caller op key tag num body) to = to ≡ Switch
-IsFor config (WriteRep caller op key num body) to = to ≡ Switch
-IsFor config (GetAns caller op key num body near) to = to ≡ Client caller
-IsFor config (WriteAns caller op key num kept) to = to ≡ Client caller
-IsFor config (Admit epoch i key tag) to = to ≡ Switch
-IsFor config (AdmitAck i tag) to = to ≡ Controller
-IsFor config (Hot key) to = to ≡ Controller
-IsFor config _ to = Unit {0}
-
-pub record Flies (plan : PlanView) (s : State) (m : Message) : Type 0 where
-  pub to : IsFor plan.config m.packet m.to
-  pub relies : Relies plan s m.packet
-
 -- ---- the whole
 
 -- what a client has still to send
@@ -199,7 +180,7 @@ pub record Keeps (plan : PlanView) (s : State) : Type 0 where
   pub config : s.switch.config ≡ plan.config
   pub order : Pairs Earlier s.log
   pub lines : (l : LogLine) → Among l s.log → LineIs plan s l
-  pub flies : (m : Message) → Among m s.bag → Flies plan s m
+  pub relies : (m : Message) → Among m s.bag → Relies plan s m.packet
   pub records : (key : List ℕ) → IsWritten plan s.log s.steps key (look plan s key).num (look plan s key).body
   pub left : (c : ℕ) → LeftIs plan s c
   pub open_or_answered : (at op : ℕ) → Among (line_at at (Sent op (line_of plan.ops op))) s.log → IsOpenOrAnswered plan s op

@@ -1,6 +1,9 @@
 pub mod Answers
+pub mod Coherence
+pub mod Deliveries
 pub mod Frame
 pub mod Keeps
+pub mod Openings
 pub mod Requests
 pub mod Scripts
 pub mod Slots

@@ -22,7 +22,7 @@ use Rattle.far_model.specs.Pass.{Passed, sent_to, pass, pass_notes, read_at, rea
 use Rattle.far_model.specs.State.{State, client_at, line_at, now, noted, stepped}
 use Rattle.far_model.specs.View.{SlotView, SwitchView, slot_at, entry_place, is_slot_of, is_taken, server_of}
 use Rattle.run_laws.proofs.Frame.{AboutMine, NotOn, ShowsNoMore, off_shows_each, member, note_member, absent_lasts, shown_lasts, shown_by_lasts, shown_within, shown_by_within, shown_shown_by, Grows, past, serves_lasts, tagged_lasts}
-use Rattle.run_laws.proofs.Keeps.{SendsOp, NumbersOp, EmitsOp, AnswersOp, Absent, IsSent, NumberStands, AnswerStands, AdmitsOther, IsDrawn, IsTagged, ServesOp, ReadIsAsked, ReadIsForwarded, WriteIsForwarded, WriteIsAsked, IsBeingAnswered, Flies, Keeps}
+use Rattle.run_laws.proofs.Keeps.{SendsOp, NumbersOp, EmitsOp, AnswersOp, Absent, IsSent, NumberStands, AnswerStands, AdmitsOther, IsDrawn, IsTagged, ServesOp, ReadIsAsked, ReadIsForwarded, WriteIsForwarded, WriteIsAsked, IsBeingAnswered, Keeps}
 use Rattle.run_laws.proofs.Slots.{IsEntry, SetsSlot, entry_is, entry_set, entry_kept, taken_sets, with_slot_sets}
 use Rattle.run_laws.proofs.Step.{IsOther, AreOthers, NoteIs, GoesWell, AdmitsNone, PassesFor, passed_state, pass_keeps, shown_counted}
 
@@ -113,7 +113,7 @@ pub hot_goes : (plan : PlanView) (t : State) (key : List ℕ) (v : SwitchView) �
 hot_goes plan t key v = go (grows_hot v.config.hot (hot_cell key v))
   where
     go : (b : Bool) → GoesWell plan t (if b then sent_to Controller (Hot key) else None) × AdmitsNone (if b then sent_to Controller (Hot key) else None)
-    go true = ((record { to = refl; relies = tt }, λ tag. tt), λ tag. tt)
+    go true = ((tt, λ tag. tt), λ tag. tt)
     go false = (tt, tt)
 
 module _ (plan : PlanView) (s : State) (k : Keeps plan s) (runs : s.running ≡ true) (rest : List Message) (caller op : ℕ) (key : List ℕ) (others : AreOthers (Its op) s rest) where
@@ -139,14 +139,11 @@ module _ (plan : PlanView) (s : State) (k : Keeps plan s) (runs : s.running ≡ 
       let t : State = passed_state s rest (record { view = w; first = sent_to (Server (server_of s.switch.config key)) (GetFwd caller op key tag); second = second }) [] in
       let shown : ShowsAtMost plan t.log key (look plan s key).num = shown_lasts s t [] refl plan key (look plan s key).num (subst (λ n. ShowsAtMost plan s.log key n) reaches (k.covers runs key)) tt in
       (record {
-        to = ap (λ c. Server (server_of c key)) k.config;
-        relies = record {
           serves = serves_lasts plan (Its op) [] s t g caller op key (absent_lasts s t [] refl (AnswersOp op) h.serves.unanswered tt) h.serves;
           read = h.read;
           unemitted = absent_lasts s t [] refl (EmitsOp op) h.unemitted tt;
           floor = shown_shown_by plan t.log key h.serves.sent.sent_at (look plan s key).num shown;
           tagged = record { drawn = g.drawn tag drawn; current = λ slot is old under. shown_within plan t.log key (look plan s key).num (max (look plan s key).num slot.num) shown (omega arith) };
-        };
       }, λ other. tt)
 
   pub read_keeps : ReadIsAsked plan s caller op key → Keeps plan (switch_turn s rest (GetReq caller op key) (read_passes s.switch caller op key (entry_place key s.switch)))
@@ -160,7 +157,7 @@ module _ (plan : PlanView) (s : State) (k : Keeps plan s) (runs : s.running ≡ 
           let reaches : reach plan s key ≡ slot.num = reach_latest (look plan s key).num (entry key s.switch) slot is latest in
           pass_keeps plan (Its op) s rest p (Emitted op slot.num slot.body true ∷ []) key k (near_passes plan s op slot.body true key slot k h.serves.on_key is latest) others (λ tag. tt) tt
             (λ g. (
-              (record { to = refl; relies = answering t (Emitted op slot.num slot.body true ∷ []) slot.num slot.body true g (inl refl) (λ x. x, tt) h.serves }, λ tag. tt),
+              (answering t (Emitted op slot.num slot.body true ∷ []) slot.num slot.body true g (inl refl) (λ x. x, tt) h.serves, λ tag. tt),
               tt,
               (record {
                 fresh = h.unemitted;
@@ -232,7 +229,7 @@ module _ (plan : PlanView) (s : State) (k : Keeps plan s) (runs : s.running ≡ 
         (λ other ne. (tt, (λ q. ne (sym q ∙ h.serves.on_key), tt))) (λ r. shown) (k.slots key (slot_at s.switch i) (ap (slot_if s.switch) e)).drawn (λ l. written) (λ tag n m c b old under. absurd cc) in
       pass_keeps plan (Its op) s rest p (write_notes w) key k f others (λ tag. tt) admits
         (λ g. (
-          (record { to = refl; relies = answering t (write_notes w) w.counter None true g (inr (inl refl)) (λ x. x, (λ x. x, tt)) h.serves }, λ tag. tt),
+          (answering t (write_notes w) w.counter None true g (inr (inl refl)) (λ x. x, (λ x. x, tt)) h.serves, λ tag. tt),
           goes t,
           (record {
             fresh = (h.unnumbered, number_fresh w.counter above);
@@ -266,7 +263,7 @@ module _ (plan : PlanView) (s : State) (k : Keeps plan s) (runs : s.running ≡ 
       absorbed i e false =
           let is : IsEntry key (numbered s.switch) i = entry_is key (numbered s.switch) i e in
           write_absorbs body (with_taken (with_slot (numbered s.switch) i (absorbing (s.switch.counter + 1) body (slot_at s.switch i))) i) (part_of (numbered s.switch) i) i h e
-            (taken_sets (numbered s.switch) i (absorbing (s.switch.counter + 1) body (slot_at s.switch i)) is.within) (omega arith) (λ t. (record { to = tt; relies = tt }, λ tag. tt)) (λ tag. tt)
+            (taken_sets (numbered s.switch) i (absorbing (s.switch.counter + 1) body (slot_at s.switch i)) is.within) (omega arith) (λ t. (tt, λ tag. tt)) (λ tag. tt)
       place : (o : Option ℕ) → entry_place key s.switch ≡ o → Keeps plan (switch_turn s rest (WriteReq caller op key body) (write_passes (numbered s.switch) caller op key body o))
       place None e =
           let p : Passed = write_passes (numbered s.switch) caller op key body None in
@@ -276,14 +273,11 @@ module _ (plan : PlanView) (s : State) (k : Keeps plan s) (runs : s.running ≡ 
             (quiet_passes plan s (touched key (numbered s.switch)) (Numbered op (s.switch.counter + 1) ∷ []) key k refl (omega arith) (λ other. refl) (λ other. (tt, tt))) others (λ tag. tt) hot.1
             (λ g. (
               (record {
-                to = ap (λ c. Server (server_of c key)) k.config;
-                relies = record {
                   serves = serves_lasts plan (Its op) (Numbered op (s.switch.counter + 1) ∷ []) s t g caller op key (absent_lasts s t (Numbered op (s.switch.counter + 1) ∷ []) refl (AnswersOp op) h.serves.unanswered (λ x. x, tt)) h.serves;
                   write = h.write; same_body = h.same_body;
                   own = own_now t (Numbered op (s.switch.counter + 1) ∷ []) (s.switch.counter + 1) refl (inl refl);
                   above = omega arith;
                   unemitted = absent_lasts s t (Numbered op (s.switch.counter + 1) ∷ []) refl (EmitsOp op) h.unemitted (λ x. x, tt);
-                };
               }, λ tag. tt),
               hot.0,
               (record {

@@ -27,7 +27,7 @@ use Rattle.far_model.specs.State.{State, client_at, line_at, now, noted, stepped
 use Rattle.far_model.specs.View.{SlotView, SwitchView}
 use Rattle.far_model.proofs.Members.{among_append, each_among}
 use Rattle.run_laws.proofs.Frame.{Names, sends_names, numbers_names, emits_names, answers_names, AboutMine, NotOn, off_shows_each, IsNote, absent_lasts, member, note_member, log_cases, shown_lasts, shown_within, Grows, serves_lasts, written_lasts, answering_lasts, left_lasts, not_mine, past}
-use Rattle.run_laws.proofs.Keeps.{SendsOp, NumbersOp, EmitsOp, AnswersOp, Absent, IsSent, AdmitsOther, IsDrawn, ServesOp, ReadIsAsked, WriteIsAsked, IsBeingAnswered, Relies, Flies, LeftIs, WasAnswered, IsOpenOrAnswered, Keeps}
+use Rattle.run_laws.proofs.Keeps.{SendsOp, NumbersOp, EmitsOp, AnswersOp, Absent, IsSent, AdmitsOther, IsDrawn, ServesOp, ReadIsAsked, WriteIsAsked, IsBeingAnswered, Relies, LeftIs, WasAnswered, IsOpenOrAnswered, Keeps}
 use Rattle.run_laws.proofs.Requests.{Its}
 use Rattle.run_laws.proofs.Slots.{both}
 use Rattle.run_laws.proofs.Step.{IsOther, AreOthers, NoteIs, IsNoSending, sent_before, next}
@@ -64,7 +64,7 @@ module _ (plan : PlanView) (op : ℕ) (s : State) (rest new : List Message) (not
 
   pub turned_keeps : Keeps plan s → AreOthers (Its op) s rest → ((m : Message) → Among m new → (tag : ℕ) → AdmitsOther tag m.packet)
       → ((key : List ℕ) → Each (NotOn plan key) notes) → Each (AboutMine (Its op)) notes → Pairs Rises notes
-      → (Grows plan (Its op) notes s turned → ((m : Message) → Among m new → Flies plan turned m) × Each (NoteIs plan (Its op) s turned) notes × ((c : ℕ) → LeftIs plan turned c))
+      → (Grows plan (Its op) notes s turned → ((m : Message) → Among m new → Relies plan turned m.packet) × Each (NoteIs plan (Its op) s turned) notes × ((c : ℕ) → LeftIs plan turned c))
       → ((at o : ℕ) → Among (line_at at (Sent o (line_of plan.ops o))) turned.log → IsOpenOrAnswered plan turned o)
       → Keeps plan turned
   turned_keeps k others none off about pairs holds waits_on =
@@ -89,7 +89,7 @@ module _ (plan : PlanView) (op : ℕ) (s : State) (rest new : List Message) (not
           admitted : (tag : ℕ) → IsDrawn s tag → (m : Message) → Among m rest ⊎ Among m new → AdmitsOther tag m.packet
           admitted tag d m (inl h) = d.admitted m (others m h).0
           admitted tag d m (inr h) = none m h tag
-      bag : ((m : Message) → Among m new → Flies plan turned m) → (m : Message) → Among m rest ⊎ Among m new → (Among m s.bag × IsOther (Its op) m.packet) ⊎ Flies plan turned m
+      bag : ((m : Message) → Among m new → Relies plan turned m.packet) → (m : Message) → Among m rest ⊎ Among m new → (Among m s.bag × IsOther (Its op) m.packet) ⊎ Relies plan turned m.packet
       bag f m (inl h) = inl (others m h)
       bag f m (inr h) = inr (f m h)
 
@@ -169,14 +169,14 @@ client_within (x ∷ xs) zero op left h = omega arith
 client_within (x ∷ xs) (suc c) op left h = let b = client_within xs c op left h in omega (arith, b)
 
 request_goes : (plan : PlanView) (t : State) (c op : ℕ) → ServesOp plan t c op (line_of plan.ops op).key → Absent (NumbersOp op) t.log → Absent (EmitsOp op) t.log
-    → Flies plan t (record { from = Client c; to = Switch; packet = request c op (line_of plan.ops op) }) × ((tag : ℕ) → AdmitsOther tag (request c op (line_of plan.ops op)))
+    → Relies plan t (request c op (line_of plan.ops op)) × ((tag : ℕ) → AdmitsOther tag (request c op (line_of plan.ops op)))
 request_goes plan t c op serves unnumbered unemitted = go (is_read (line_of plan.ops op).op) refl
   where
     go : (b : Bool) → is_read (line_of plan.ops op).op ≡ b
-        → Flies plan t (record { from = Client c; to = Switch; packet = if b then GetReq c op (line_of plan.ops op).key else WriteReq c op (line_of plan.ops op).key (line_of plan.ops op).body })
+        → Relies plan t (if b then GetReq c op (line_of plan.ops op).key else WriteReq c op (line_of plan.ops op).key (line_of plan.ops op).body)
         × ((tag : ℕ) → AdmitsOther tag (if b then GetReq c op (line_of plan.ops op).key else WriteReq c op (line_of plan.ops op).key (line_of plan.ops op).body))
-    go true e = (record { to = refl; relies = record { serves = serves; read = e; unemitted = unemitted } }, λ tag. tt)
-    go false e = (record { to = refl; relies = record { serves = serves; write = e; same_body = refl; unnumbered = unnumbered; unemitted = unemitted } }, λ tag. tt)
+    go true e = (record { serves = serves; read = e; unemitted = unemitted }, λ tag. tt)
+    go false e = (record { serves = serves; write = e; same_body = refl; unnumbered = unnumbered; unemitted = unemitted }, λ tag. tt)
 
 request_admits : (c op : ℕ) (line : OpLine) (tag : ℕ) → AdmitsOther tag (request c op line)
 request_admits c op line tag = go (is_read line.op)
@@ -215,12 +215,12 @@ send_keeps plan s k c can = go (client_at s c).left refl (client_at s c).waits r
         unnamed : (l : LogLine) → Among l s.log → Names op l.entry → ⊥
         unnamed l a n = unsent _ (named_sent plan s k op l a n).sent refl
         others : AreOthers (Its op) s s.bag
-        others m a = (a, λ caller o e same. unsent _ (subst (λ n. IsSent plan s.log s.steps n) same (serves_some plan s m.packet caller o (k.flies m a).relies e).serves.sent).sent refl)
+        others m a = (a, λ caller o e same. unsent _ (subst (λ n. IsSent plan s.log s.steps n) same (serves_some plan s m.packet caller o (k.relies m a) e).serves.sent).sent refl)
         new_admits : (m : Message) → Among m (record { from = Client c; to = Switch; packet = request c op line } ∷ []) → (tag : ℕ) → AdmitsOther tag m.packet
         new_admits m (inl e) tag = subst (λ (w : Message). AdmitsOther tag w.packet) (sym e) (request_admits c op line tag)
         new_admits m (inr a) tag = absurd a
-        new_flies : Grows plan (Its op) notes s t → (m : Message) → Among m (record { from = Client c; to = Switch; packet = request c op line } ∷ []) → Flies plan t m
-        new_flies g m (inl e) = subst (λ w. Flies plan t w) (sym e) (request_goes plan t c op
+        new_flies : Grows plan (Its op) notes s t → (m : Message) → Among m (record { from = Client c; to = Switch; packet = request c op line } ∷ []) → Relies plan t m.packet
+        new_flies g m (inl e) = subst (λ (w : Message). Relies plan t w.packet) (sym e) (request_goes plan t c op
           (record {
             sent = record { sent_at = now s; sent = note_member s t notes refl (Sent op line) (inl refl); before = omega arith };
             on_key = refl; by_client = sym of_client;
@@ -265,6 +265,6 @@ send_keeps plan s k c can = go (client_at s c).left refl (client_at s c).waits r
             new entry (inr a) f = absurd a
     go : (left : List ℕ) → (client_at s c).left ≡ left → (w : Option ℕ) → (client_at s c).waits ≡ w → (not (is_some (client_at s c).waits) && has_next (client_at s c).left) ≡ true
         → Keeps plan (client_turn s c s.bag (next_sent plan.ops c (client_at s c) left))
-    go [] is w e h = absurd (let b = (both _ _ h).1 in let f = ap has_next is in let g = sym b ∙ f in cc)
+    go [] is w e h = absurd (let b : has_next (client_at s c).left ≡ true = (both (not (is_some (client_at s c).waits)) (has_next (client_at s c).left) h).1 in let f : has_next (client_at s c).left ≡ false = ap has_next is in let g : true ≡ false = sym b ∙ f in cc)
     go (op ∷ left) is None e h = sending op left is e
     go (op ∷ left) is (Some o) e h = absurd (let b = (both _ _ h).0 in let f = ap (λ (x : Option ℕ). not (is_some x)) e in let g = sym b ∙ f in cc)

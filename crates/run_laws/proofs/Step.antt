@@ -21,8 +21,8 @@ use Rattle.far_model.specs.Pass.{Passed, passed_out, pass_notes, outs_of}
 use Rattle.far_model.specs.State.{State, client_at, line_at, now, noted, stepped}
 use Rattle.far_model.specs.View.{SlotView, SwitchView}
 use Rattle.far_model.proofs.Members.{among_append, among_map_from, each_among, among_remove}
-use Rattle.run_laws.proofs.Frame.{AboutMine, NotOn, ShowsNoMore, IsNote, off_shows_each, log_cases, member, shown_lasts, shown_within, Grows, still, past, written_lasts, line_is_lasts, flies_lasts, left_lasts, IsFresh, order_lasts}
-use Rattle.run_laws.proofs.Keeps.{SendsOp, AdmitsOther, IsDrawn, IsTagged, LineStands, LineIs, Flies, LeftIs, SlotIs, WasAnswered, IsOpenOrAnswered, Keeps}
+use Rattle.run_laws.proofs.Frame.{AboutMine, NotOn, ShowsNoMore, IsNote, off_shows_each, log_cases, member, shown_lasts, shown_within, Grows, still, past, written_lasts, line_is_lasts, relies_lasts, left_lasts, IsFresh, order_lasts}
+use Rattle.run_laws.proofs.Keeps.{SendsOp, AdmitsOther, IsDrawn, IsTagged, LineStands, LineIs, Relies, LeftIs, SlotIs, WasAnswered, IsOpenOrAnswered, Keeps}
 use Rattle.run_laws.proofs.Slots.{key_cases}
 
 -- the message is of no operation of this step
@@ -58,13 +58,13 @@ pub record Holds (plan : PlanView) (t : State) : Type 0 where
 
 pub next : (plan : PlanView) (Mine : ℕ → Type 0) (notes : List LogEntry) (s t : State) → Keeps plan s → Grows plan Mine notes s t
     → Each (NoteIs plan Mine s t) notes → Pairs Rises notes
-    → ((m : Message) → Among m t.bag → (Among m s.bag × IsOther Mine m.packet) ⊎ Flies plan t m)
+    → ((m : Message) → Among m t.bag → (Among m s.bag × IsOther Mine m.packet) ⊎ Relies plan t m.packet)
     → Holds plan t → Keeps plan t
 next plan Mine notes s t k g n pairs bag h = record {
     some_server = k.some_server; servers = h.servers; config = h.config;
     order = subst (λ w. Pairs Earlier w) (sym g.log) (order_lasts plan s notes k (each_part (NoteIs plan Mine s t) (IsFresh s.log) notes (λ e x. x.fresh) n) pairs);
     lines = λ l a. line l (log_cases s t notes g.log l a);
-    flies = λ m a. flight m (bag m a);
+    relies = λ m a. flight m (bag m a);
     records = h.records; left = h.left; open_or_answered = h.open_or_answered; covers = h.covers; slots = h.slots;
     untagged = g.drawn 0 k.untagged;
   }
@@ -75,8 +75,8 @@ next plan Mine notes s t k g n pairs bag h = record {
         let passed : now s ≤ t.steps = let e = g.steps in omega arith in
         let new : LineIs plan t (line_at (now s) m.entry) = record { passed = passed; stands = (each_among (NoteIs plan Mine s t) m.entry notes n m.among).stands } in
         subst (λ w. LineIs plan t w) (sym m.is) new
-    flight : (m : Message) → (Among m s.bag × IsOther Mine m.packet) ⊎ Flies plan t m → Flies plan t m
-    flight m (inl a) = flies_lasts plan Mine notes s t g m a.1 (k.flies m a.0)
+    flight : (m : Message) → (Among m s.bag × IsOther Mine m.packet) ⊎ Relies plan t m.packet → Relies plan t m.packet
+    flight m (inl a) = relies_lasts plan Mine notes s t g m.packet a.1 (k.relies m a.0)
     flight m (inr f) = f
 
 -- no number shown is greater than what the switch has counted
@@ -95,17 +95,17 @@ shown_counted plan s k runs key = λ at op num body near a on. go at op num body
 -- a message that leaves is new and tells nobody to admit
 abbrev pub GoesWell : PlanView → State → Option Out → Type 0
 GoesWell plan t None = Unit {0}
-GoesWell plan t (Some out) = Flies plan t (record { from = Switch; to = out.to; packet = out.packet }) × ((tag : ℕ) → AdmitsOther tag out.packet)
+GoesWell plan t (Some out) = Relies plan t out.packet × ((tag : ℕ) → AdmitsOther tag out.packet)
 
 outs_go : (plan : PlanView) (t : State) (first second : Option Out) → GoesWell plan t first → GoesWell plan t second → (m : Message)
-    → Among m (messages_from Switch (outs_of first ++ outs_of second)) → Flies plan t m × ((tag : ℕ) → AdmitsOther tag m.packet)
+    → Among m (messages_from Switch (outs_of first ++ outs_of second)) → Relies plan t m.packet × ((tag : ℕ) → AdmitsOther tag m.packet)
 outs_go plan t None None a b m h = absurd h
-outs_go plan t None (Some y) a b m (inl e) = subst (λ (w : Message). Flies plan t w × ((tag : ℕ) → AdmitsOther tag w.packet)) (sym e) b
+outs_go plan t None (Some y) a b m (inl e) = subst (λ (w : Message). Relies plan t w.packet × ((tag : ℕ) → AdmitsOther tag w.packet)) (sym e) b
 outs_go plan t None (Some y) a b m (inr h) = absurd h
-outs_go plan t (Some x) None a b m (inl e) = subst (λ (w : Message). Flies plan t w × ((tag : ℕ) → AdmitsOther tag w.packet)) (sym e) a
+outs_go plan t (Some x) None a b m (inl e) = subst (λ (w : Message). Relies plan t w.packet × ((tag : ℕ) → AdmitsOther tag w.packet)) (sym e) a
 outs_go plan t (Some x) None a b m (inr h) = absurd h
-outs_go plan t (Some x) (Some y) a b m (inl e) = subst (λ (w : Message). Flies plan t w × ((tag : ℕ) → AdmitsOther tag w.packet)) (sym e) a
-outs_go plan t (Some x) (Some y) a b m (inr (inl e)) = subst (λ (w : Message). Flies plan t w × ((tag : ℕ) → AdmitsOther tag w.packet)) (sym e) b
+outs_go plan t (Some x) (Some y) a b m (inl e) = subst (λ (w : Message). Relies plan t w.packet × ((tag : ℕ) → AdmitsOther tag w.packet)) (sym e) a
+outs_go plan t (Some x) (Some y) a b m (inr (inl e)) = subst (λ (w : Message). Relies plan t w.packet × ((tag : ℕ) → AdmitsOther tag w.packet)) (sym e) b
 outs_go plan t (Some x) (Some y) a b m (inr (inr h)) = absurd h
 
 -- what leaves needs only that it tells nobody to admit, for the tags that were drawn
@@ -195,7 +195,7 @@ module _ (plan : PlanView) (Mine : ℕ → Type 0) (s : State) (rest : List Mess
       })
     where
       bag : GoesWell plan after p.first × GoesWell plan after p.second × Each (NoteIs plan Mine s after) notes → (m : Message)
-          → Among m rest ⊎ Among m (messages_from Switch (passed_out p)) → (Among m s.bag × IsOther Mine m.packet) ⊎ Flies plan after m
+          → Among m rest ⊎ Among m (messages_from Switch (passed_out p)) → (Among m s.bag × IsOther Mine m.packet) ⊎ Relies plan after m.packet
       bag w m (inl h) = inl (others m h)
       bag w m (inr h) = inr (outs_go plan after p.first p.second w.0 w.1 m h).0
       waits_on : (op : ℕ) → IsOpenOrAnswered plan s op → IsOpenOrAnswered plan after op

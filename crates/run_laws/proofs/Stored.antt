@@ -26,7 +26,7 @@ use Rattle.far_model.specs.State.{State, client_at, records_at, line_at, now, no
 use Rattle.far_model.specs.View.{SlotView, SwitchView, server_of}
 use Rattle.far_model.proofs.Members.{among_append}
 use Rattle.run_laws.proofs.Frame.{AboutMine, absent_lasts, member, shown_lasts, shown_by_lasts, shown_within, shown_by_within, Grows, serves_lasts, tagged_lasts, written_lasts, has_own_lasts, left_lasts, own_lasts, past}
-use Rattle.run_laws.proofs.Keeps.{SendsOp, EmitsOp, AnswersOp, Absent, AdmitsOther, IsDrawn, IsTagged, ServesOp, ReadIsForwarded, WriteIsForwarded, ReadIsReplied, WriteIsReplied, Flies, WasAnswered, IsOpenOrAnswered, Keeps}
+use Rattle.run_laws.proofs.Keeps.{SendsOp, EmitsOp, AnswersOp, Absent, AdmitsOther, IsDrawn, IsTagged, ServesOp, ReadIsForwarded, WriteIsForwarded, ReadIsReplied, WriteIsReplied, Relies, WasAnswered, IsOpenOrAnswered, Keeps}
 use Rattle.run_laws.proofs.Requests.{Its}
 use Rattle.run_laws.proofs.Slots.{same_key_true, same_key_refl, key_cases}
 use Rattle.run_laws.proofs.Step.{IsOther, AreOthers, NoteIs, sent_before, next}
@@ -94,7 +94,7 @@ module _ (plan : PlanView) (op : ℕ) (s : State) (rest : List Message) (servers
   pub served_keeps : Keeps plan s → length servers ≡ length s.servers → ((key : List ℕ) → (look plan s key).num ≤ (look plan served key).num)
       → ((key : List ℕ) → IsWritten plan s.log s.steps key (look plan served key).num (look plan served key).body)
       → AreOthers (Its op) s rest → ((c o : ℕ) → Among o (client_at s c).left → Its op o → ⊥) → ((tag : ℕ) → AdmitsOther tag reply.packet)
-      → (Grows plan (Its op) [] s served → ((key : List ℕ) → IsWritten plan served.log served.steps key (look plan served key).num (look plan served key).body) → Flies plan served reply)
+      → (Grows plan (Its op) [] s served → ((key : List ℕ) → IsWritten plan served.log served.steps key (look plan served key).num (look plan served key).body) → Relies plan served reply.packet)
       → Keeps plan served
   served_keeps k same more written others unsent none flies =
       next plan (Its op) [] s served k g tt tt (λ m h. bag m (among_append m rest (reply ∷ []) h)) (record {
@@ -121,9 +121,9 @@ module _ (plan : PlanView) (op : ℕ) (s : State) (rest : List Message) (servers
           admitted tag d m (inr (inr h)) = absurd h
       records : (key : List ℕ) → IsWritten plan served.log served.steps key (look plan served key).num (look plan served key).body
       records key = written_lasts plan (Its op) [] s served g s.steps (now s) key _ _ (omega arith) (written key)
-      bag : (m : Message) → Among m rest ⊎ Among m (reply ∷ []) → (Among m s.bag × IsOther (Its op) m.packet) ⊎ Flies plan served m
+      bag : (m : Message) → Among m rest ⊎ Among m (reply ∷ []) → (Among m s.bag × IsOther (Its op) m.packet) ⊎ Relies plan served m.packet
       bag m (inl h) = inl (others m h)
-      bag m (inr (inl e)) = inr (subst (λ w. Flies plan served w) (sym e) (flies g records))
+      bag m (inr (inl e)) = inr (subst (λ (w : Message). Relies plan served w.packet) (sym e) (flies g records))
       bag m (inr (inr h)) = absurd h
       waits_on : (o : ℕ) → IsOpenOrAnswered plan s o → IsOpenOrAnswered plan served o
       waits_on o (inl waits) = inl waits
@@ -154,8 +154,6 @@ module _ (plan : PlanView) (s : State) (k : Keeps plan s) (rest : List Message) 
         (λ other. subst (λ (w : Held). IsWritten plan s.log s.steps other w.num w.body) (sym (looks other)) (k.records other))
         others (left_unsent h.serves) (λ t. tt)
         (λ g records. record {
-          to = refl;
-          relies = record {
             serves = serves_lasts plan (Its op) [] s t g caller op key (absent_lasts s t [] refl (AnswersOp op) h.serves.unanswered tt) h.serves;
             read = h.read;
             unemitted = absent_lasts s t [] refl (EmitsOp op) h.unemitted tt;
@@ -163,24 +161,20 @@ module _ (plan : PlanView) (s : State) (k : Keeps plan s) (rest : List Message) 
             known = g.more key;
             written = written_lasts plan (Its op) [] s t g s.steps (now s) key _ _ (omega arith) (k.records key);
             tagged = tagged_lasts plan (Its op) [] s t g key tag _ _ (omega arith) h.tagged;
-          };
-        })
+          })
 
   pub write_served : (num : ℕ) (body : Option (List ℕ)) → WriteIsForwarded plan s caller op key num body
       → Keeps plan (server_turn s its_server rest (WriteFwd caller op key num body) (server_reply its_server its_records (WriteFwd caller op key num body)))
   write_served num body h =
       served_keeps plan op s rest (set s.servers its_server stored) reply k same_length more written others (left_unsent h.serves) (λ t. tt)
         (λ g records. record {
-          to = refl;
-          relies = record {
             serves = serves_lasts plan (Its op) [] s t g caller op key (absent_lasts s t [] refl (AnswersOp op) h.serves.unanswered tt) h.serves;
             write = h.write;
             unemitted = absent_lasts s t [] refl (EmitsOp op) h.unemitted tt;
             own = record { own = num; numbered_at = h.own.numbered_at; numbered = member s t [] refl _ h.own.numbered; before = le_trans h.own.before (past plan (Its op) [] s t g); within = least };
             known = subst (λ (w : Held). (found stored key).num ≤ w.num) (sym its_look) (omega arith);
             written = subst (λ (w : Held). IsWritten plan t.log t.steps key w.num w.body) its_look (records key);
-          };
-        })
+          })
     where
       r : Record
       r = record_of key num body
