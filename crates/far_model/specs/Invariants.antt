@@ -7,12 +7,14 @@ use Rattle.far_base.specs.declared.log.LogLine.{LogLine}
 use Rattle.far_base.specs.declared.packet.Message.{Message}
 use Rattle.far_base.specs.declared.packet.Packet.{Packet}
 use Rattle.far_base.specs.declared.packet.Packet.TheVariants.{GetReq, WriteReq, GetFwd, WriteFwd, GetRep, WriteRep, GetAns, WriteAns, Hot, Admit, AdmitAck, Peek, PeekAns, Remove, RemoveAns, SnapStart, SnapBegun, SnapRead, SnapPart, Store, Stored, Release, Ask, Told, TopAsk, TopIs}
+use Rattle.far_base.specs.declared.plan.OpLine.{OpLine}
 use Rattle.far_model.specs.Clients.{line_of}
-use Rattle.far_model.specs.Coherent.{HasOwnNumber}
+use Rattle.far_model.specs.Coherent.{HasOwnNumber, IsAnswering, IsCoherent, WasSent}
 use Rattle.far_model.specs.History.{Held}
 use Rattle.far_model.specs.KeyedRecords.{found}
-use Rattle.far_model.specs.Members.{Among}
-use Rattle.far_model.specs.State.{State, records_at, line_at}
+use Rattle.far_model.specs.Log.{exposed, is_read}
+use Rattle.far_model.specs.Members.{Among, Pairs}
+use Rattle.far_model.specs.State.{State, client_at, records_at, line_at}
 use Rattle.far_model.specs.View.{SlotView, SwitchView, server_of, slot_at, entry_place}
 
 -- each number of the key that an answer has shown up to the moment is at most n
@@ -121,3 +123,56 @@ IsTaggedCurrent plan s _ = Unit {0}
 -- a slot that takes the reply to the read that left under its tag is current
 abbrev pub TaggedReplyIsCurrent : PlanView → State → Type 0
 TaggedReplyIsCurrent plan s = (m : Message) → Among m s.bag → IsTaggedCurrent plan s m.packet
+
+-- ---- what holds of the log
+
+-- an entry that tells something of the operation
+abbrev pub TellsOf : ℕ → LogEntry → Type 0
+TellsOf op (Sent other line) = op ≡ other
+TellsOf op (Numbered other num) = op ≡ other
+TellsOf op (Emitted other num body near) = op ≡ other
+TellsOf op (Answered other) = op ≡ other
+TellsOf op _ = ⊥
+
+-- moments do not fall, and none is still to come
+pub record IsTimely (s : State) : Type 0 where
+  pub rises : Pairs (λ (x y : LogLine). x.moment ≤ y.moment) s.log
+  pub passed : (l : LogLine) → Among l s.log → l.moment ≤ s.steps
+
+-- what is sent is of the plan, and an operation that a line tells of was sent by then
+pub record SendsByPlan (plan : PlanView) (log : List LogLine) : Type 0 where
+  pub line : (at op : ℕ) (line : OpLine) → Among (line_at at (Sent op line)) log → line ≡ line_of plan.ops op
+  pub sent : (l : LogLine) (op : ℕ) → Among l log → TellsOf op l.entry → WasSent log l.moment op
+
+pub record IsAnsweredInFull (log : List LogLine) (op : ℕ) (read : Bool) : Type 0 where
+  pub answered_at : ℕ
+  pub answered : Among (line_at answered_at (Answered op)) log
+  pub emitted : IsAnswering log answered_at op
+  pub numbered : read ≡ false → (own : ℕ) × IsOwnNumber log answered_at op own
+
+-- an operation that was sent, and for which its client does not wait, was answered, and a write was numbered
+abbrev pub ClosedAreAnswered : State → Type 0
+ClosedAreAnswered s = (at op : ℕ) (line : OpLine) → Among (line_at at (Sent op line)) s.log → (client_at s line.client).waits ≡ None → IsAnsweredInFull s.log op (is_read line.op)
+
+-- a read is answered with at least what was exposed when it was sent, and a write with at least its own number
+pub record AnswersAreCurrent (log : List LogLine) : Type 0 where
+  pub read : (sent_at at op num : ℕ) (line : OpLine) (body : Option (List ℕ)) (near : Bool) → Among (line_at sent_at (Sent op line)) log → Among (line_at at (Emitted op num body near)) log → is_read line.op ≡ true → exposed log line.key sent_at ≤ num
+  pub write : (numbered_at at op own num : ℕ) (body : Option (List ℕ)) (near : Bool) → Among (line_at numbered_at (Numbered op own)) log → Among (line_at at (Emitted op num body near)) log → own ≤ num
+
+-- all that holds of what a run has logged
+pub record LogIsSound (plan : PlanView) (s : State) : Type 0 where
+  pub coherent : IsCoherent s.log
+  pub timely : IsTimely s
+  pub by_plan : SendsByPlan plan s.log
+  pub closed : ClosedAreAnswered s
+  pub current : AnswersAreCurrent s.log
+
+-- what holds of numbers, replies and slots
+pub record NumbersAreSound (plan : PlanView) (s : State) : Type 0 where
+  pub differ : NumbersDiffer s
+  pub served : RepliesAreServed plan s
+  pub floors : ReadsSeeTheirFloor plan s
+  pub written : RecordsAreWritten plan s
+  pub server : ServerIsCurrent plan s
+  pub latest : LatestIsCurrent plan s
+  pub tagged : TaggedReplyIsCurrent plan s

@@ -11,7 +11,7 @@ use Rattle.far_base.specs.declared.packet.Packet.TheVariants.{GetReq, WriteReq, 
 use Rattle.far_model.specs.Clients.{line_of}
 use Rattle.far_model.specs.Coherent.{Rises, Earlier, HasOwnNumber, IsAnswering}
 use Rattle.far_model.specs.Flights.{subject, OfOperation}
-use Rattle.far_model.specs.Invariants.{ShowsAtMostBy, ShowsAtMost, look, entry, reach, IsOwnNumber, IsNumberOf, IsWritten, WouldBeCurrent}
+use Rattle.far_model.specs.Invariants.{TellsOf, ShowsAtMostBy, ShowsAtMost, look, entry, reach, IsOwnNumber, IsNumberOf, IsWritten, WouldBeCurrent}
 use Rattle.far_model.specs.Log.{is_read}
 use Rattle.far_model.specs.Members.{Among, Each, Pairs}
 use Rattle.far_model.specs.State.{State, client_at, line_at, now, noted}
@@ -19,33 +19,25 @@ use Rattle.far_model.proofs.Members.{among_append_left, among_append_right, amon
 use Rattle.far_model.specs.View.{SlotView}
 use Rattle.run_laws.proofs.Keeps.{SendsOp, NumbersOp, EmitsOp, AnswersOp, Absent, IsSent, NumberStands, AnswerStands, LineStands, LineIs, IsDrawn, IsTagged, ServesOp, ReadIsAsked, WriteIsAsked, ReadIsForwarded, WriteIsForwarded, ReadIsReplied, WriteIsReplied, IsBeingAnswered, Relies, LeftIs, SlotIs, WasAnswered, IsOpenOrAnswered, Keeps}
 
--- an entry that tells something of the operation
-abbrev pub Names : ℕ → LogEntry → Type 0
-Names op (Sent other line) = op ≡ other
-Names op (Numbered other num) = op ≡ other
-Names op (Emitted other num body near) = op ≡ other
-Names op (Answered other) = op ≡ other
-Names op _ = ⊥
-
-pub sends_names : (op : ℕ) (e : LogEntry) → SendsOp op e → Names op e
+pub sends_names : (op : ℕ) (e : LogEntry) → SendsOp op e → TellsOf op e
 sends_names op (Sent other line) h = h
 sends_names op _ h = absurd h
 
-pub numbers_names : (op : ℕ) (e : LogEntry) → NumbersOp op e → Names op e
+pub numbers_names : (op : ℕ) (e : LogEntry) → NumbersOp op e → TellsOf op e
 numbers_names op (Numbered other num) h = h
 numbers_names op _ h = absurd h
 
-pub emits_names : (op : ℕ) (e : LogEntry) → EmitsOp op e → Names op e
+pub emits_names : (op : ℕ) (e : LogEntry) → EmitsOp op e → TellsOf op e
 emits_names op (Emitted other num body near) h = h
 emits_names op _ h = absurd h
 
-pub answers_names : (op : ℕ) (e : LogEntry) → AnswersOp op e → Names op e
+pub answers_names : (op : ℕ) (e : LogEntry) → AnswersOp op e → TellsOf op e
 answers_names op (Answered other) h = h
 answers_names op _ h = absurd h
 
 -- the notes of the step are of its own operations
 abbrev pub AboutMine : (ℕ → Type 0) → LogEntry → Type 0
-AboutMine Mine e = (op : ℕ) → Names op e → Mine op
+AboutMine Mine e = (op : ℕ) → TellsOf op e → Mine op
 
 -- an answer among the notes shows no number of the key
 abbrev pub NotOn : PlanView → List ℕ → LogEntry → Type 0
@@ -140,7 +132,7 @@ module _ (plan : PlanView) (Mine : ℕ → Type 0) (notes : List LogEntry) (s t 
   pub still : (l : LogLine) → Among l s.log → Among l t.log
   still l h = member s t notes g.log l h
 
-  pub not_mine : (says : ℕ → LogEntry → Type 0) → ((op : ℕ) (e : LogEntry) → says op e → Names op e) → (op : ℕ) → (Mine op → ⊥) → Absent (says op) s.log → Absent (says op) t.log
+  pub not_mine : (says : ℕ → LogEntry → Type 0) → ((op : ℕ) (e : LogEntry) → says op e → TellsOf op e) → (op : ℕ) → (Mine op → ⊥) → Absent (says op) s.log → Absent (says op) t.log
   not_mine says names op other h = absent_lasts s t notes g.log (says op) h (each_map (AboutMine Mine) (λ n. says op n → ⊥) notes (λ e about said. other (about op (names op e said))) g.about)
 
   abbrev pub sent_lasts : (moment op : ℕ) → IsSent plan s.log moment op → IsSent plan t.log moment op

@@ -3,9 +3,11 @@ pub mod Coherence
 pub mod Deliveries
 pub mod Frame
 pub mod Keeps
+pub mod Meanings
 pub mod Openings
 pub mod Requests
 pub mod Scripts
 pub mod Slots
 pub mod Step
 pub mod Stored
+pub mod Uncached

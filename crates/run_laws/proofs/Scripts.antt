@@ -19,14 +19,14 @@ use Rattle.far_model.specs.Clients.{ClientState, line_of, closed, preserves, ans
 use Rattle.far_model.specs.Coherent.{Rises}
 use Rattle.far_model.specs.Events.{client_turn, next_sent, can_send, has_next, sends}
 use Rattle.far_model.specs.Flights.{subject, OfOperation}
-use Rattle.far_model.specs.Invariants.{ShowsAtMost, look, entry, reach, IsWritten, WouldBeCurrent}
+use Rattle.far_model.specs.Invariants.{TellsOf, ShowsAtMost, look, entry, reach, IsWritten, WouldBeCurrent}
 use Rattle.far_model.specs.KeyedRecords.{put_record}
 use Rattle.far_model.specs.Log.{is_read}
 use Rattle.far_model.specs.Members.{Among, Each, Pairs}
 use Rattle.far_model.specs.State.{State, client_at, line_at, now, noted, stepped, nobody}
 use Rattle.far_model.specs.View.{SlotView, SwitchView}
 use Rattle.far_model.proofs.Members.{among_append, each_among}
-use Rattle.run_laws.proofs.Frame.{Names, sends_names, numbers_names, emits_names, answers_names, AboutMine, NotOn, off_shows_each, IsNote, absent_lasts, member, note_member, log_cases, shown_lasts, shown_within, Grows, serves_lasts, written_lasts, answering_lasts, left_lasts, not_mine, past}
+use Rattle.run_laws.proofs.Frame.{sends_names, numbers_names, emits_names, answers_names, AboutMine, NotOn, off_shows_each, IsNote, absent_lasts, member, note_member, log_cases, shown_lasts, shown_within, Grows, serves_lasts, written_lasts, answering_lasts, left_lasts, not_mine, past}
 use Rattle.run_laws.proofs.Keeps.{SendsOp, NumbersOp, EmitsOp, AnswersOp, Absent, IsSent, AdmitsOther, IsDrawn, ServesOp, ReadIsAsked, WriteIsAsked, IsBeingAnswered, Relies, LeftIs, WasAnswered, IsOpenOrAnswered, Keeps}
 use Rattle.run_laws.proofs.Requests.{Its}
 use Rattle.run_laws.proofs.Slots.{both}
@@ -143,24 +143,24 @@ module _ (plan : PlanView) (s : State) (k : Keeps plan s) (rest : List Message) 
 
 -- ---- an operation is sent
 
--- what the log says of an operation it says after its sending
-pub named_sent : (plan : PlanView) (s : State) → Keeps plan s → (op : ℕ) (l : LogLine) → Among l s.log → Names op l.entry → IsSent plan s.log s.steps op
+-- what the log tells of an operation it tells after its sending
+pub named_sent : (plan : PlanView) (s : State) → Keeps plan s → (op : ℕ) (l : LogLine) → Among l s.log → TellsOf op l.entry → IsSent plan s.log l.moment op
 named_sent plan s k op l a n = go l.entry refl n
   where
     line : (entry : LogEntry) → l.entry ≡ entry → Among (line_at l.moment entry) s.log
     line entry e = subst (λ w. Among (line_at l.moment w) s.log) e a
-    later : (o moment : ℕ) → moment ≤ s.steps → op ≡ o → IsSent plan s.log moment o → IsSent plan s.log s.steps op
-    later o moment b same h = subst (λ n. IsSent plan s.log s.steps n) (sym same) (record { sent_at = h.sent_at; sent = h.sent; before = le_trans h.before b })
-    go : (entry : LogEntry) → l.entry ≡ entry → Names op entry → IsSent plan s.log s.steps op
+    its : (o : ℕ) → op ≡ o → IsSent plan s.log l.moment o → IsSent plan s.log l.moment op
+    its o same h = subst (λ n. IsSent plan s.log l.moment n) (sym same) h
+    go : (entry : LogEntry) → l.entry ≡ entry → TellsOf op entry → IsSent plan s.log l.moment op
     go (Sent o line') e n =
         let is = k.lines _ (line (Sent o line') e) in
-        later o l.moment is.passed n (record { sent_at = l.moment; sent = subst (λ w. Among (line_at l.moment (Sent o w)) s.log) is.stands (line (Sent o line') e); before = omega arith })
-    go (Numbered o num) e n = let is = k.lines _ (line (Numbered o num) e) in later o l.moment is.passed n is.stands.sent
-    go (Emitted o num body near) e n = let is = k.lines _ (line (Emitted o num body near) e) in later o l.moment is.passed n is.stands.sent
+        its o n (record { sent_at = l.moment; sent = subst (λ w. Among (line_at l.moment (Sent o w)) s.log) is.stands (line (Sent o line') e); before = omega arith })
+    go (Numbered o num) e n = its o n (k.lines _ (line (Numbered o num) e)).stands.sent
+    go (Emitted o num body near) e n = its o n (k.lines _ (line (Emitted o num body near) e)).stands.sent
     go (Answered o) e n =
-        let is = k.lines _ (line (Answered o) e) in
-        let emitted = k.lines _ is.stands.emitted in
-        later o is.stands.emitted_at emitted.passed n emitted.stands.sent
+        let is = (k.lines _ (line (Answered o) e)).stands in
+        let sent = (k.lines _ is.emitted).stands.sent in
+        its o n (record { sent_at = sent.sent_at; sent = sent.sent; before = le_trans sent.before is.before })
     go _ e n = absurd n
 
 client_within : (clients : List ClientState) (c op : ℕ) (left : List ℕ) → (get_or clients c nobody).left ≡ op ∷ left → c < length clients
@@ -212,7 +212,7 @@ send_keeps plan s k c can = go (client_at s c).left refl (client_at s c).waits r
         of_client = (k.left c).of_client op among_left
         unsent : Absent (SendsOp op) s.log
         unsent = (k.left c).unsent op among_left
-        unnamed : (l : LogLine) → Among l s.log → Names op l.entry → ⊥
+        unnamed : (l : LogLine) → Among l s.log → TellsOf op l.entry → ⊥
         unnamed l a n = unsent _ (named_sent plan s k op l a n).sent refl
         others : AreOthers (Its op) s s.bag
         others m a = (a, λ caller o e same. unsent _ (subst (λ n. IsSent plan s.log s.steps n) same (serves_some plan s m.packet caller o (k.relies m a) e).serves.sent).sent refl)
