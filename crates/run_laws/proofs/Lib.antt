@@ -1,5 +1,6 @@
 pub mod Answers
 pub mod Coherence
+pub mod Controls
 pub mod Deliveries
 pub mod Frame
 pub mod Keeps
@@ -7,6 +8,7 @@ pub mod Meanings
 pub mod Openings
 pub mod Requests
 pub mod Scripts
+pub mod Seats
 pub mod Slots
 pub mod Step
 pub mod Stored

@@ -1,0 +1,2 @@
+-- Slots and their owners, and admissions on their way.
+use Rattle.std.proofs.Common.{◌≡◌}
