@@ -1,4 +1,6 @@
+pub mod Admissions
 pub mod Answers
+pub mod Bindings
 pub mod Coherence
 pub mod Controls
 pub mod Deliveries

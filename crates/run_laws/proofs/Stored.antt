@@ -33,7 +33,7 @@ use Rattle.run_laws.proofs.Step.{IsOther, AreOthers, NoteIs, sent_before, next}
 
 -- ---- lists of records
 
-same_key_false : (a b : List ℕ) → a ≢ b → same_key a b ≡ false
+pub same_key_false : (a b : List ℕ) → a ≢ b → same_key a b ≡ false
 same_key_false a b ne = go (same_key a b) refl
   where
     go : (t : Bool) → same_key a b ≡ t → same_key a b ≡ false

@@ -1,0 +1,2 @@
+-- Admissions.
+use Rattle.std.proofs.Common.{◌≡◌}
