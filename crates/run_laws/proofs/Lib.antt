@@ -1,12 +1,14 @@
 pub mod Admissions
 pub mod Answers
 pub mod Bindings
+pub mod Calm
 pub mod Coherence
 pub mod Controls
 pub mod Deliveries
 pub mod Frame
 pub mod Keeps
 pub mod Meanings
+pub mod Moves
 pub mod Openings
 pub mod Requests
 pub mod Scripts
