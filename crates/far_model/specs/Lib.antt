@@ -5,6 +5,7 @@ pub mod Events
 pub mod Evictions
 pub mod Flights
 pub mod History
+pub mod Invariants
 pub mod Kept
 pub mod KeyedRecords
 pub mod Log
