@@ -13,6 +13,8 @@ pub mod Openings
 pub mod Requests
 pub mod Scripts
 pub mod Seats
+pub mod Finishing
+pub mod SentOrLeft
 pub mod Slots
 pub mod Step
 pub mod Stored
