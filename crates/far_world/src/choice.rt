@@ -1,5 +1,5 @@
 use crate::client::Client;
-use far_base::{Event, Message};
+use far_base::Event;
 
 /// How many clients can send.
 pub(crate) fn count_senders(clients: &[Client]) -> u32 {
@@ -27,14 +27,14 @@ fn sender_at(clients: &[Client], place: u32) -> u32 {
 }
 
 /// How many events can happen: a client sends, or a message is delivered.
-pub(crate) fn count_choices(clients: &[Client], bag: &[Message]) -> u32 {
-    count_senders(clients) + bag.len() as u32
+pub(crate) fn count_choices(clients: &[Client], messages: usize) -> u32 {
+    count_senders(clients) + messages as u32
 }
 
 /// The event that the pick chooses among those that can happen: sends by rising client, and then
 /// deliveries by rising place.
-pub(crate) fn choose(clients: &[Client], bag: &[Message], pick: u64) -> Event {
-    let place = (pick % u64::from(count_choices(clients, bag))) as u32;
+pub(crate) fn choose(clients: &[Client], messages: usize, pick: u64) -> Event {
+    let place = (pick % u64::from(count_choices(clients, messages))) as u32;
     let senders = count_senders(clients);
     if place < senders {
         return Event::Send(sender_at(clients, place));

@@ -1,13 +1,34 @@
+ghost use Rattle.std.specs.Prelude.{◌≡◌, ◌≢◌, ◌+◌, ◌-◌, ◌<◌, ◌≤◌, ◌^◌, ◌++◌, ℕ, [], ◌∷◌, length, map, remove, slice_get, slice_set, slice_index_or, Some, None, IsTrue, IfSome, OnOk, OnErr, option_to_list};
+ghost use Rattle.far_base.specs.declared.log.LogEntry.TheVariants.{Sent, Answered};
+ghost use Rattle.far_base.specs.declared.packet.Message.{Message};
+ghost use Rattle.far_base.specs.declared.party.Party.{Party};
+ghost use Rattle.far_base.specs.declared.party.Party.TheVariants.{Switch};
+ghost use Rattle.far_model.specs.Clients as clients_of;
+ghost use Rattle.far_model.specs.Events as events;
+ghost use Rattle.far_model.specs.Members.{Among};
+ghost use Rattle.far_model.specs.Parties.{messages_from};
+ghost use Rattle.far_model.specs.Pass as passes;
+ghost use Rattle.far_model.specs.Servers as servers_of;
+ghost use Rattle.far_model.specs.Uncached.{GoesTo};
+ghost use Rattle.far_model.specs.View.{opening_view};
+ghost use Rattle.far_world.specs.Entries.{IsForward};
+ghost use Rattle.far_world.specs.WorldView.{Logs, IsOperation, answered_in};
+
+use crate::bag::Bag;
 use crate::client::Client;
 use crate::pass::pass;
 use crate::server::Server;
 use far_base::{
-    Config, Event, LogEntry, LogLine, Memory, Message, Op, OpLine, Out, Packet, Party, Plan,
+    Config, Event, LogEntry, LogLine, Memory, Op, OpLine, Out, Packet, Party, Plan, Record,
 };
 use far_history::Log;
 
 /// Counts one more step, and logs what happened in it.
-fn note(log: &mut Log, entry: Option<LogEntry>) {
+fn note(log: &mut Log, entry: Option<LogEntry>)
+    requires room { 0 < log.old.room }
+    requires steps { log.old.steps + 1 < 2 ^ 64 }
+    ensures { Logs log.old log.new (option_to_list entry) }
+{
     let moment = log.steps() + 1;
     log.set_steps(moment);
     if let Some(entry) = entry {
@@ -15,19 +36,10 @@ fn note(log: &mut Log, entry: Option<LogEntry>) {
     }
 }
 
-/// Adds what a party sends to the messages on their way.
-fn post(bag: &mut Vec<Message>, from: Party, out: Option<Out>) {
-    if let Some(out) = out {
-        bag.push_reserved(Message {
-            from,
-            to: out.to,
-            packet: out.packet,
-        });
-    }
-}
-
 /// What the client asks the switch.
-fn request(caller: u32, op: u32, line: &OpLine) -> Packet {
+fn request(caller: u32, op: u32, line: &OpLine) -> Packet
+    ensures { result ≡ clients_of.request caller op line.now }
+{
     match line.op {
         Op::Get => Packet::GetReq {
             caller,
@@ -44,14 +56,23 @@ fn request(caller: u32, op: u32, line: &OpLine) -> Packet {
 }
 
 /// The client sends its next operation.
-fn send(ops: &[OpLine], client: &mut Client, number: u32, bag: &mut Vec<Message>, log: &mut Log) {
+fn send(ops: &[OpLine], client: &mut Client, number: u32, bag: &mut Bag, log: &mut Log)
+    requires next { IsTrue (events.has_next client.old.left) }
+    requires known { (op : ℕ) → Among op client.old.left → IsOperation ops.now op }
+    requires bag_room { 0 < bag.old.room }
+    requires log_room { 0 < log.old.room }
+    requires steps { log.old.steps + 1 < 2 ^ 64 }
+    ensures client { client.new ≡ (events.next_sent ops.now number client.old client.old.left).state }
+    ensures bag { bag.new.messages ≡ bag.old.messages ++ messages_from (Party.Client number) (events.next_sent ops.now number client.old client.old.left).out }
+    ensures log { Logs log.old log.new (events.next_sent ops.now number client.old client.old.left).notes }
+{
     let op = client.open_next();
     let line = &ops[op as usize - 1];
     let out = Out {
         to: Party::Switch,
         packet: request(number, op, line),
     };
-    post(bag, Party::Client(number), Some(out));
+    bag.post(Party::Client(number), &out);
     note(log, Some(LogEntry::Sent { op, line: *line }));
 }
 
@@ -59,44 +80,65 @@ fn send(ops: &[OpLine], client: &mut Client, number: u32, bag: &mut Vec<Message>
 fn deliver_to_switch(
     config: &Config,
     counter: &mut u64,
-    bag: &mut Vec<Message>,
+    bag: &mut Bag,
     log: &mut Log,
     place: usize,
     packet: &Packet,
-) {
+)
+    requires servers { 0 < config.now.servers }
+    requires cold { config.now.hot ≡ 0 }
+    requires counter { counter.old + 1 < 2 ^ 64 }
+    requires kind { GoesTo config.now packet.now Switch }
+    requires there { place < length bag.old.messages }
+    requires log_room { 0 < log.old.room }
+    requires steps { log.old.steps + 1 < 2 ^ 64 }
+    ensures counter { (passes.pass (opening_view config.now 1 counter.old) packet.now).view ≡ opening_view config.now 1 counter.new }
+    ensures bag { bag.new.messages ≡ remove bag.old.messages place ++ messages_from Switch (passes.passed_out (passes.pass (opening_view config.now 1 counter.old) packet.now)) }
+    ensures log { Logs log.old log.new (passes.pass_notes packet.now (passes.pass (opening_view config.now 1 counter.old) packet.now)) }
+    ensures next { counter.new < counter.old + 2 }
+{
     let passed = pass(config, *counter, packet);
     *counter = passed.counter;
     bag.remove(place);
-    post(bag, Party::Switch, passed.out);
+    bag.post(Party::Switch, &passed.out);
     note(log, passed.note);
-}
-
-/// The reply goes to the switch.
-fn to_switch(reply: Option<Packet>) -> Option<Out> {
-    Some(Out {
-        to: Party::Switch,
-        packet: reply?,
-    })
 }
 
 /// The message at the place is taken out, and the server handles it.
 fn deliver_to_server(
     server: &mut Server,
     number: u32,
-    bag: &mut Vec<Message>,
+    bag: &mut Bag,
     log: &mut Log,
     place: usize,
     packet: &Packet,
-) -> Result<(), Memory> {
-    let reply = server.take(packet)?;
+) -> Result<(), Memory>
+    requires kind { IsForward packet.now }
+    requires there { place < length bag.old.messages }
+    requires log_room { 0 < log.old.room }
+    requires steps { log.old.steps + 1 < 2 ^ 64 }
+    ensures server { OnOk result (server.new ≡ servers_of.server_keeps server.old packet.now) }
+    ensures bag { OnOk result (bag.new.messages ≡ remove bag.old.messages place ++ events.reply_message number (servers_of.server_reply number server.old packet.now)) }
+    ensures log { OnOk result (Logs log.old log.new []) }
+    ensures err_server { OnErr result (server.new ≡ server.old) }
+    ensures err_bag { OnErr result (bag.new ≡ bag.old) }
+    ensures err_log { OnErr result (log.new ≡ log.old) }
+{
+    let _item: Option<Record> = None;
+    let reply = Out {
+        to: Party::Switch,
+        packet: server.take(packet)?,
+    };
     bag.remove(place);
-    post(bag, Party::Server(number), to_switch(reply));
+    bag.post(Party::Server(number), &reply);
     note(log, None);
     Ok(())
 }
 
 /// The operation that a packet answers.
-fn answered(packet: &Packet) -> Option<LogEntry> {
+fn answered(packet: &Packet) -> Option<LogEntry>
+    ensures { option_to_list result ≡ answered_in packet.now }
+{
     match *packet {
         Packet::GetAns { op, .. } | Packet::WriteAns { op, .. } => Some(LogEntry::Answered { op }),
         _ => None,
@@ -106,11 +148,18 @@ fn answered(packet: &Packet) -> Option<LogEntry> {
 /// The message at the place is taken out, and it closes the operation of its client.
 fn deliver_to_client(
     client: &mut Client,
-    bag: &mut Vec<Message>,
+    bag: &mut Bag,
     log: &mut Log,
     place: usize,
     packet: &Packet,
-) {
+)
+    requires there { place < length bag.old.messages }
+    requires log_room { 0 < log.old.room }
+    requires steps { log.old.steps + 1 < 2 ^ 64 }
+    ensures client { client.new ≡ clients_of.closed client.old }
+    ensures bag { bag.new.messages ≡ remove bag.old.messages place }
+    ensures log { Logs log.old log.new (answered_in packet.now) }
+{
     client.close();
     bag.remove(place);
     note(log, answered(packet));
@@ -122,7 +171,7 @@ pub(crate) fn happen(
     counter: &mut u64,
     clients: &mut Vec<Client>,
     servers: &mut Vec<Server>,
-    bag: &mut Vec<Message>,
+    bag: &mut Bag,
     log: &mut Log,
     event: Event,
 ) -> Result<(), Memory> {
@@ -151,11 +200,11 @@ fn deliver(
     counter: &mut u64,
     clients: &mut Vec<Client>,
     servers: &mut Vec<Server>,
-    bag: &mut Vec<Message>,
+    bag: &mut Bag,
     log: &mut Log,
     place: usize,
 ) -> Result<(), Memory> {
-    let message = bag[place];
+    let message = bag.at(place);
     match message.to {
         Party::Switch => {
             deliver_to_switch(config, counter, bag, log, place, &message.packet);

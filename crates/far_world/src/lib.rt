@@ -1,6 +1,7 @@
 //! The world: clients, the switch, servers, the messages on their way, and the log of what happened.
 #![tactic(auto)]
 
+mod bag;
 mod choice;
 mod client;
 mod happening;

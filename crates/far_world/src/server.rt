@@ -1,6 +1,7 @@
 use far_base::{Body, Key, Memory, Packet, Record};
 use indexmap::IndexMap;
 use std::alloc::Global;
+use std::marker::Model;
 
 /// What a server keeps for a key. Number 0 stands for no write.
 #[derive(Clone, Copy)]
@@ -15,16 +16,35 @@ pub(crate) struct Server {
     records: IndexMap<Key, Versioned>,
 }
 
+impl Model for Server {
+    ghost use Rattle.std.specs.Prelude.{List, map};
+    ghost use Rattle.far_base.specs.declared.record.Record.{Record};
+    ghost use Rattle.far_world.specs.Entries.{record_of_entry};
+
+    ghost Value = { List Record };
+
+    ghost view = { λ s. map record_of_entry s.records.entries };
+}
+
+ghost use Rattle.std.specs.Prelude.{◌≡◌, ℕ, [], Some, OnOk, IfOk, OnErr};
+ghost use Rattle.far_model.specs.KeyedRecords as keyed;
+ghost use Rattle.far_model.specs.Servers as model;
+ghost use Rattle.far_world.specs.Entries.{held_of, IsForward};
+
 impl Server {
     /// A server that has no records.
-    pub(crate) fn new(alloc: Global) -> Self {
+    pub(crate) fn new(alloc: Global) -> Self
+        ensures { result ≡ [] }
+    {
         Server {
             records: IndexMap::new(alloc),
         }
     }
 
     /// What the server keeps for the key.
-    fn found(&self, key: &Key) -> Versioned {
+    fn found(&self, key: &Key) -> Versioned
+        ensures { held_of result ≡ keyed.found self.now key.now }
+    {
         match self.records.get(key).copied() {
             Some(found) => found,
             None => Versioned {
@@ -34,22 +54,39 @@ impl Server {
         }
     }
 
+    /// The record takes the place of that of its key, or goes last.
+    fn put(&mut self, item: &Record) -> Result<(), Memory>
+        ensures ok { OnOk result (self.new ≡ keyed.put_record item.now self.old) }
+        ensures err { OnErr result (self.new ≡ self.old) }
+    {
+        let versioned = Versioned {
+            num: item.num,
+            body: item.body,
+        };
+        match self.records.insert(item.key, versioned) {
+            Ok(_) => Ok(()),
+            Err(_) => Err(Memory),
+        }
+    }
+
     /// Keeps the record where its number is greater.
-    fn keep(&mut self, record: &Record) -> Result<(), Memory> {
-        if self.found(&record.key).num < record.num {
-            let versioned = Versioned {
-                num: record.num,
-                body: record.body,
-            };
-            self.records
-                .insert(record.key, versioned)
-                .map_err(|_| Memory)?;
+    fn keep(&mut self, item: &Record) -> Result<(), Memory>
+        ensures ok { OnOk result (self.new ≡ model.kept self.old item.now) }
+        ensures err { OnErr result (self.new ≡ self.old) }
+    {
+        if self.found(&item.key).num < item.num {
+            self.put(item)?;
         }
         Ok(())
     }
 
     /// Handles a packet that the switch forwards, and gives the reply.
-    pub(crate) fn take(&mut self, packet: &Packet) -> Result<Option<Packet>, Memory> {
+    pub(crate) fn take(&mut self, packet: &Packet) -> Result<Packet, Memory>
+        requires { IsForward packet.now }
+        ensures ok { OnOk result (self.new ≡ model.server_keeps self.old packet.now) }
+        ensures reply { (number : ℕ) → IfOk result (λ reply. Some reply ≡ model.server_reply number self.old packet.now) }
+        ensures err { OnErr result (self.new ≡ self.old) }
+    {
         match *packet {
             Packet::GetFwd {
                 caller,
@@ -58,14 +95,14 @@ impl Server {
                 tag,
             } => {
                 let found = self.found(&key);
-                Ok(Some(Packet::GetRep {
+                Ok(Packet::GetRep {
                     caller,
                     op,
                     key,
                     tag,
                     num: found.num,
                     body: found.body,
-                }))
+                })
             }
             Packet::WriteFwd {
                 caller,
@@ -76,15 +113,15 @@ impl Server {
             } => {
                 self.keep(&Record { key, num, body })?;
                 let found = self.found(&key);
-                Ok(Some(Packet::WriteRep {
+                Ok(Packet::WriteRep {
                     caller,
                     op,
                     key,
                     num: found.num,
                     body: found.body,
-                }))
+                })
             }
-            _ => Ok(None),
+            _ => unreachable!(),
         }
     }
 }

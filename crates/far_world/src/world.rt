@@ -1,8 +1,9 @@
+use crate::bag::Bag;
 use crate::choice::{are_done, choose, count_choices};
 use crate::client::Client;
 use crate::happening::happen;
 use crate::server::Server;
-use far_base::{Event, Memory, Message, OpLine, Plan};
+use far_base::{Event, Memory, OpLine, Plan};
 use far_history::Log;
 use std::alloc::Global;
 
@@ -13,7 +14,7 @@ pub struct World {
     counter: u64,
     clients: Vec<Client>,
     servers: Vec<Server>,
-    bag: Vec<Message>,
+    bag: Bag,
     log: Log,
     events: Vec<Event>,
 }
@@ -46,7 +47,7 @@ impl World {
             counter: 0,
             clients,
             servers,
-            bag: Vec::new(alloc),
+            bag: Bag::new(alloc),
             log: Log::new(alloc),
             events: Vec::new(alloc),
         })
@@ -54,8 +55,8 @@ impl World {
 
     /// The event that the pick chooses happens. After an error the world is as before.
     pub fn step(&mut self, pick: u64) -> Result<Event, Memory> {
-        let event = choose(&self.clients, &self.bag, pick);
-        self.bag.reserve(1)?;
+        let event = choose(&self.clients, self.bag.len(), pick);
+        self.bag.reserve()?;
         self.log.reserve(1)?;
         self.events.reserve(1)?;
         happen(
@@ -73,7 +74,7 @@ impl World {
 
     /// How many events can happen now.
     pub fn enabled_count(&self) -> u32 {
-        count_choices(&self.clients, &self.bag)
+        count_choices(&self.clients, self.bag.len())
     }
 
     /// Whether no event can happen.
