@@ -36,7 +36,7 @@ grows_cold hot cell h = rw h refl
 untouched : (config : Config) (epoch counter : ℕ) (key : List ℕ) → config.hot ≡ 0 → touched key (opening_view config epoch counter) ≡ opening_view config epoch counter
 untouched config epoch counter key h = let i = cell_of key in
     ap (λ (cells : List HotCell). record (opening_view config epoch counter) { hot = cells })
-        (ap (λ (cell : HotCell). set (replicate HOT_CELLS cold) i cell) (counted_cold config.hot (in_era 0 (get_or (replicate HOT_CELLS cold) i cold)) h) ∙ stays_cold HOT_CELLS i)
+    (ap (λ (cell : HotCell). set (replicate HOT_CELLS cold) i cell) (counted_cold config.hot (in_era 0 (get_or (replicate HOT_CELLS cold) i cold)) h) ∙ stays_cold HOT_CELLS i)
 
 untold : (config : Config) (epoch counter : ℕ) (key : List ℕ) → config.hot ≡ 0 → told_hot key (opening_view config epoch counter) ≡ None
 untold config epoch counter key h = rw (grows_cold config.hot (hot_cell key (opening_view config epoch counter)) h) refl

@@ -9,10 +9,11 @@ ghost use Rattle.far_model.specs.Members.{Among};
 ghost use Rattle.far_model.specs.Parties.{messages_from};
 ghost use Rattle.far_model.specs.Pass as passes;
 ghost use Rattle.far_model.specs.Servers as servers_of;
-ghost use Rattle.far_model.specs.Uncached.{GoesTo};
+ghost use Rattle.far_model.specs.Uncached.{GoesTo, IsUncached, IsUncachedPlan};
+ghost use Rattle.far_base.specs.declared.event.Event.{Event};
 ghost use Rattle.far_model.specs.View.{opening_view};
 ghost use Rattle.far_world.specs.Entries.{IsForward};
-ghost use Rattle.far_world.specs.WorldView.{Logs, IsOperation, answered_in};
+ghost use Rattle.far_world.specs.WorldView.{Logs, IsOperation, answered_in, state_of, CanHappen, KnowsOperations, SameLeft};
 
 use crate::bag::Bag;
 use crate::client::Client;
@@ -165,60 +166,85 @@ fn deliver_to_client(
     note(log, answered(packet));
 }
 
+/// The message at the place is taken out, and its addressee handles it.
+fn deliver(
+    plan: &Plan,
+    counter: &mut u64,
+    clients: &mut [Client],
+    servers: &mut [Server],
+    bag: &mut Bag,
+    log: &mut Log,
+    place: u32,
+) -> Result<(), Memory>
+    requires plan { IsUncachedPlan plan.now }
+    requires uncached { IsUncached plan.now (state_of plan.now counter.old clients.old servers.old bag.old.messages log.old) }
+    requires there { place < length bag.old.messages }
+    requires counter { counter.old + 1 < 2 ^ 64 }
+    requires log_room { 0 < log.old.room }
+    requires steps { log.old.steps + 1 < 2 ^ 64 }
+    ensures after { OnOk result (state_of plan.now counter.new clients.new servers.new bag.new.messages log.new ≡ events.happens plan.now (state_of plan.now counter.old clients.old servers.old bag.old.messages log.old) (Event.Deliver place)) }
+    ensures next { OnOk result (counter.new ≤ counter.old + 1) }
+    ensures messages { OnOk result (length bag.new.messages ≤ length bag.old.messages + 1) }
+    ensures left { OnOk result (SameLeft clients.old clients.new) }
+    ensures err { OnErr result (state_of plan.now counter.new clients.new servers.new bag.new.messages log.new ≡ state_of plan.now counter.old clients.old servers.old bag.old.messages log.old) }
+{
+    let message = bag.at(place as usize);
+    match message.to {
+        Party::Switch => {
+            deliver_to_switch(
+                &plan.config,
+                counter,
+                bag,
+                log,
+                place as usize,
+                &message.packet,
+            );
+            Ok(())
+        }
+        Party::Client(number) => {
+            let client = &mut clients[number as usize];
+            deliver_to_client(client, bag, log, place as usize, &message.packet);
+            Ok(())
+        }
+        Party::Server(number) => {
+            let server = &mut servers[number as usize];
+            deliver_to_server(server, number, bag, log, place as usize, &message.packet)
+        }
+        Party::Controller => unreachable!(),
+    }
+}
+
 /// The event happens to the parties of a world. There is room for one more message and one more line.
 pub(crate) fn happen(
     plan: &Plan,
     counter: &mut u64,
-    clients: &mut Vec<Client>,
-    servers: &mut Vec<Server>,
+    clients: &mut [Client],
+    servers: &mut [Server],
     bag: &mut Bag,
     log: &mut Log,
     event: Event,
-) -> Result<(), Memory> {
+) -> Result<(), Memory>
+    requires plan { IsUncachedPlan plan.now }
+    requires uncached { IsUncached plan.now (state_of plan.now counter.old clients.old servers.old bag.old.messages log.old) }
+    requires known { KnowsOperations plan.now (state_of plan.now counter.old clients.old servers.old bag.old.messages log.old) }
+    requires can { CanHappen clients.old bag.old.messages event }
+    requires counter { counter.old + 1 < 2 ^ 64 }
+    requires bag_room { 0 < bag.old.room }
+    requires log_room { 0 < log.old.room }
+    requires steps { log.old.steps + 1 < 2 ^ 64 }
+    ensures after { OnOk result (state_of plan.now counter.new clients.new servers.new bag.new.messages log.new ≡ events.happens plan.now (state_of plan.now counter.old clients.old servers.old bag.old.messages log.old) event) }
+    ensures next { OnOk result (counter.new ≤ counter.old + 1) }
+    ensures messages { OnOk result (length bag.new.messages ≤ length bag.old.messages + 1) }
+    ensures known { OnOk result (KnowsOperations plan.now (state_of plan.now counter.new clients.new servers.new bag.new.messages log.new)) }
+    ensures err { OnErr result (state_of plan.now counter.new clients.new servers.new bag.new.messages log.new ≡ state_of plan.now counter.old clients.old servers.old bag.old.messages log.old) }
+{
     match event {
         Event::Send(number) => {
             let client = &mut clients[number as usize];
             send(&plan.ops, client, number, bag, log);
             Ok(())
         }
-        Event::Deliver(place) => deliver(
-            &plan.config,
-            counter,
-            clients,
-            servers,
-            bag,
-            log,
-            place as usize,
-        ),
-        _ => Ok(()),
-    }
-}
-
-/// The message at the place is taken out, and its addressee handles it.
-fn deliver(
-    config: &Config,
-    counter: &mut u64,
-    clients: &mut Vec<Client>,
-    servers: &mut Vec<Server>,
-    bag: &mut Bag,
-    log: &mut Log,
-    place: usize,
-) -> Result<(), Memory> {
-    let message = bag.at(place);
-    match message.to {
-        Party::Switch => {
-            deliver_to_switch(config, counter, bag, log, place, &message.packet);
-            Ok(())
-        }
-        Party::Client(number) => {
-            let client = &mut clients[number as usize];
-            deliver_to_client(client, bag, log, place, &message.packet);
-            Ok(())
-        }
-        Party::Server(number) => {
-            let server = &mut servers[number as usize];
-            deliver_to_server(server, number, bag, log, place, &message.packet)
-        }
-        Party::Controller => Ok(()),
+        Event::Deliver(place) => deliver(plan, counter, clients, servers, bag, log, place),
+        _ => unreachable!(),
     }
 }

@@ -55,7 +55,7 @@ impl World {
 
     /// The event that the pick chooses happens. After an error the world is as before.
     pub fn step(&mut self, pick: u64) -> Result<Event, Memory> {
-        let event = choose(&self.clients, self.bag.len(), pick);
+        let event = choose(&self.clients, &self.bag, pick);
         self.bag.reserve()?;
         self.log.reserve(1)?;
         self.events.reserve(1)?;
@@ -74,7 +74,7 @@ impl World {
 
     /// How many events can happen now.
     pub fn enabled_count(&self) -> u32 {
-        count_choices(&self.clients, self.bag.len())
+        count_choices(&self.clients, &self.bag)
     }
 
     /// Whether no event can happen.
