@@ -5,11 +5,13 @@ pub mod Events
 pub mod Evictions
 pub mod Flights
 pub mod History
+pub mod Kept
 pub mod KeyedRecords
 pub mod Log
 pub mod Members
 pub mod Parties
 pub mod Pass
+pub mod Past
 pub mod Replies
 pub mod Rounds
 pub mod Runs
