@@ -1,3 +1,7 @@
-mod Entries
 mod Cold
+mod Delivering
+mod Entries
 mod Lists
+mod Picking
+mod Running
+mod Scripts

@@ -18,7 +18,6 @@ use Rattle.far_model.specs.Runs.{IsRun, run}
 use Rattle.far_model.specs.State.{State, opening, client_at, nobody, line_at}
 use Rattle.far_model.specs.Uncached.{IsUncachedPlan}
 use Rattle.far_model.specs.View.{opening_view}
-use Rattle.far_model.specs.Work.{work_left}
 
 -- one more step is counted, and these are noted in it
 pub record Logs (old new : RoomyLog) (notes : List LogEntry) : Type 0 where
@@ -73,13 +72,10 @@ pub record Ran : Type 0 where
   pub events : List Event
   pub state : State
 
--- the state is that of the run of the plan by the events, and its numbers are within bounds
+-- the state is that of the run of the plan by the events
 pub record IsRunOf (plan : PlanView) (events : List Event) (state : State) : Type 0 where
   pub uncached : IsUncachedPlan plan
   pub enabled : IsRun plan (opening plan) events
   pub is : state ≡ run plan (opening plan) events
   pub steps : state.steps ≡ length events
-  pub work : state.steps + work_left plan state ≤ work_left plan (opening plan)
-  pub counter : state.switch.counter ≤ state.steps
-  pub messages : length state.bag ≤ state.steps
   pub known : KnowsOperations plan state

@@ -1,4 +1,4 @@
-ghost use Rattle.std.specs.Prelude.{◌≡◌, ◌≢◌, ◌+◌, ◌-◌, ◌<◌, ◌≤◌, ◌^◌, ◌++◌, ℕ, [], ◌∷◌, length, map, remove, slice_get, slice_set, slice_index_or, Some, None, IsTrue, IfSome, OnOk, OnErr, option_to_list};
+ghost use Rattle.std.specs.Prelude.{vec_len, vec_capacity, ◌≡◌, ◌≢◌, ◌+◌, ◌-◌, ◌<◌, ◌≤◌, ◌^◌, ◌++◌, ℕ, [], ◌∷◌, length, map, remove, slice_get, slice_set, slice_index_or, Some, None, IsTrue, IfSome, OnOk, OnErr, option_to_list};
 ghost use Rattle.far_base.specs.declared.log.LogEntry.TheVariants.{Sent, Answered};
 ghost use Rattle.far_base.specs.declared.packet.Message.{Message};
 ghost use Rattle.far_base.specs.declared.party.Party.{Party};
@@ -96,7 +96,6 @@ fn deliver_to_switch(
     ensures counter { (passes.pass (opening_view config.now 1 counter.old) packet.now).view ≡ opening_view config.now 1 counter.new }
     ensures bag { bag.new.messages ≡ remove bag.old.messages place ++ messages_from Switch (passes.passed_out (passes.pass (opening_view config.now 1 counter.old) packet.now)) }
     ensures log { Logs log.old log.new (passes.pass_notes packet.now (passes.pass (opening_view config.now 1 counter.old) packet.now)) }
-    ensures next { counter.new < counter.old + 2 }
 {
     let passed = pass(config, *counter, packet);
     *counter = passed.counter;
@@ -183,8 +182,7 @@ fn deliver(
     requires log_room { 0 < log.old.room }
     requires steps { log.old.steps + 1 < 2 ^ 64 }
     ensures after { OnOk result (state_of plan.now counter.new clients.new servers.new bag.new.messages log.new ≡ events.happens plan.now (state_of plan.now counter.old clients.old servers.old bag.old.messages log.old) (Event.Deliver place)) }
-    ensures next { OnOk result (counter.new ≤ counter.old + 1) }
-    ensures messages { OnOk result (length bag.new.messages ≤ length bag.old.messages + 1) }
+    ensures steps { OnOk result (log.new.steps ≡ log.old.steps + 1) }
     ensures left { OnOk result (SameLeft clients.old clients.new) }
     ensures err { OnErr result (state_of plan.now counter.new clients.new servers.new bag.new.messages log.new ≡ state_of plan.now counter.old clients.old servers.old bag.old.messages log.old) }
 {
@@ -214,6 +212,22 @@ fn deliver(
     }
 }
 
+/// Makes room for what one event adds.
+pub(crate) fn make_room(bag: &mut Bag, log: &mut Log, events: &mut Vec<Event>) -> Result<(), Memory>
+    ensures messages { bag.new.messages ≡ bag.old.messages }
+    ensures steps { log.new.steps ≡ log.old.steps }
+    ensures lines { log.new.lines ≡ log.old.lines }
+    ensures events { events.new.items ≡ events.old.items }
+    ensures bag_room { OnOk result (0 < bag.new.room) }
+    ensures log_room { OnOk result (0 < log.new.room) }
+    ensures events_room { OnOk result (vec_len events.new < vec_capacity events.new) }
+{
+    bag.reserve()?;
+    log.reserve(1)?;
+    events.reserve(1)?;
+    Ok(())
+}
+
 /// The event happens to the parties of a world. There is room for one more message and one more line.
 pub(crate) fn happen(
     plan: &Plan,
@@ -233,8 +247,7 @@ pub(crate) fn happen(
     requires log_room { 0 < log.old.room }
     requires steps { log.old.steps + 1 < 2 ^ 64 }
     ensures after { OnOk result (state_of plan.now counter.new clients.new servers.new bag.new.messages log.new ≡ events.happens plan.now (state_of plan.now counter.old clients.old servers.old bag.old.messages log.old) event) }
-    ensures next { OnOk result (counter.new ≤ counter.old + 1) }
-    ensures messages { OnOk result (length bag.new.messages ≤ length bag.old.messages + 1) }
+    ensures steps { OnOk result (log.new.steps ≡ log.old.steps + 1) }
     ensures known { OnOk result (KnowsOperations plan.now (state_of plan.now counter.new clients.new servers.new bag.new.messages log.new)) }
     ensures err { OnErr result (state_of plan.now counter.new clients.new servers.new bag.new.messages log.new ≡ state_of plan.now counter.old clients.old servers.old bag.old.messages log.old) }
 {

@@ -51,7 +51,6 @@ pub(crate) fn pass(config: &Config, counter: u64, packet: &Packet) -> Passed
     requires kind { GoesTo config.now packet.now Switch }
     ensures passed { model.pass (view.opening_view config.now 1 counter) packet.now ≡ record { view = view.opening_view config.now 1 result.counter; first = Some result.out; second = None } }
     ensures notes { option_to_list result.note ≡ model.pass_notes packet.now (model.pass (view.opening_view config.now 1 counter) packet.now) }
-    ensures counter { result.counter < counter + 2 }
 {
     match *packet {
         Packet::GetReq { caller, op, key } => Passed {
