@@ -12,40 +12,32 @@ fn body(text: &[u8]) -> Result<Body, Fail> {
     Ok(Body::from_bytes(text).ok_or("no body")?)
 }
 
+fn add(log: &mut Log, line: &LogLine) -> Result<(), Fail> {
+    log.reserve(1)?;
+    log.push(*line);
+    Ok(())
+}
+
 fn logged(alloc: Global, steps: u64, lines: &[LogLine]) -> Result<Log, Fail> {
     let mut log = Log::new(alloc);
     log.set_steps(steps);
-    log.reserve(lines.len())?;
     for line in lines {
-        log.push(*line);
+        add(&mut log, line)?;
     }
     Ok(log)
 }
 
-fn sent_on(on: &[u8], moment: u64, op: u32, what: Op, written: Body) -> Result<LogLine, Fail> {
-    let line = OpLine {
-        client: op / 2,
-        op: what,
-        key: key(on)?,
-        body: written,
-    };
-    Ok(LogLine {
-        moment,
-        entry: LogEntry::Sent { op, line },
-    })
-}
-
-fn sent(moment: u64, op: u32, client: u32, what: Op, written: Body) -> Result<LogLine, Fail> {
+fn sent(moment: u64, op: u32, client: u32, what: Op, on: Key, written: Body) -> LogLine {
     let line = OpLine {
         client,
         op: what,
-        key: key(b"a")?,
+        key: on,
         body: written,
     };
-    Ok(LogLine {
+    LogLine {
         moment,
         entry: LogEntry::Sent { op, line },
-    })
+    }
 }
 
 fn numbered(moment: u64, op: u32, num: u64) -> LogLine {
@@ -76,44 +68,49 @@ fn answered(moment: u64, op: u32) -> LogLine {
 
 #[test]
 fn a_put_and_a_get_are_reported(rt: HostRuntime) -> Result<(), Fail> {
+    let a = key(b"a")?;
     let x = body(b"x")?;
     let lines = [
-        sent(1, 1, 0, Op::Put, x)?,
+        sent(1, 1, 0, Op::Put, a, x),
         numbered(2, 1, 1),
         emitted(4, 1, 1, Body::absent()),
         answered(5, 1),
-        sent(6, 2, 0, Op::Get, Body::absent())?,
+        sent(6, 2, 0, Op::Get, a, Body::absent()),
         emitted(9, 2, 1, x),
         answered(10, 2),
     ];
     let log = logged(rt.alloc(), 10, &lines)?;
     let text = report_text(rt.alloc(), &log)?;
-    let wanted = b"far 1 report\nsteps 10\nhistory 2\n1 0 put a 1 =x server 1 5\n2 0 get a 1 =x server 6 10\ncontrol 0\nmap 1\na 1 =x\nend\n";
+    let wanted =
+        b"far 1 report\nsteps 10\nhistory 2\n1 0 put a 1 =x server 1 5\n2 0 get a 1 =x server 6 10\ncontrol 0\nmap 1\na 1 =x\nend\n";
     assert!(rt; text.as_slice() == wanted.as_slice());
     Ok(())
 }
 
 #[test]
 fn an_unwritten_key_reads_nothing(rt: HostRuntime) -> Result<(), Fail> {
+    let a = key(b"a")?;
     let lines = [
-        sent(1, 1, 0, Op::Get, Body::absent())?,
+        sent(1, 1, 0, Op::Get, a, Body::absent()),
         emitted(4, 1, 0, Body::absent()),
         answered(5, 1),
     ];
     let log = logged(rt.alloc(), 5, &lines)?;
     let text = report_text(rt.alloc(), &log)?;
-    let wanted = b"far 1 report\nsteps 5\nhistory 1\n1 0 get a 0 - server 1 5\ncontrol 0\nmap 0\nend\n";
+    let wanted =
+        b"far 1 report\nsteps 5\nhistory 1\n1 0 get a 0 - server 1 5\ncontrol 0\nmap 0\nend\n";
     assert!(rt; text.as_slice() == wanted.as_slice());
     Ok(())
 }
 
 #[test]
 fn the_later_number_may_take_effect_first(rt: HostRuntime) -> Result<(), Fail> {
+    let a = key(b"a")?;
     let x = body(b"x")?;
     let y = body(b"y")?;
     let lines = [
-        sent(1, 1, 0, Op::Put, x)?,
-        sent(2, 2, 1, Op::Put, y)?,
+        sent(1, 1, 0, Op::Put, a, x),
+        sent(2, 2, 1, Op::Put, a, y),
         numbered(3, 1, 1),
         numbered(4, 2, 2),
         emitted(6, 2, 2, Body::absent()),
@@ -123,7 +120,70 @@ fn the_later_number_may_take_effect_first(rt: HostRuntime) -> Result<(), Fail> {
     ];
     let log = logged(rt.alloc(), 10, &lines)?;
     let text = report_text(rt.alloc(), &log)?;
-    let wanted = b"far 1 report\nsteps 10\nhistory 2\n1 0 put a 1 =x server 1 10\n2 1 put a 2 =y server 2 7\ncontrol 0\nmap 1\na 2 =y\nend\n";
+    let wanted =
+        b"far 1 report\nsteps 10\nhistory 2\n1 0 put a 1 =x server 1 10\n2 1 put a 2 =y server 2 7\ncontrol 0\nmap 1\na 2 =y\nend\n";
+    assert!(rt; text.as_slice() == wanted.as_slice());
+    Ok(())
+}
+
+fn at(moment: u64, entry: LogEntry) -> LogLine {
+    LogLine { moment, entry }
+}
+
+#[test]
+fn control_entries_are_reported_in_their_order(rt: HostRuntime) -> Result<(), Fail> {
+    let a = key(b"a")?;
+    let p = body(b"p")?;
+    let item = far_base::Record {
+        key: a,
+        num: 1,
+        body: p,
+    };
+    let near = LogEntry::Emitted {
+        op: 1,
+        num: 1,
+        body: Body::absent(),
+        near: true,
+    };
+    let lines = [
+        at(
+            4,
+            LogEntry::Admitted {
+                slot: 0,
+                key: a,
+                tag: 1,
+            },
+        ),
+        sent(5, 1, 0, Op::Put, a, p),
+        numbered(7, 1, 1),
+        at(7, near),
+        at(
+            11,
+            LogEntry::Snapped {
+                id: 1,
+                point: 1,
+                count: 1,
+            },
+        ),
+        at(11, LogEntry::SnapItem { slot: 0, item }),
+        at(13, LogEntry::Stopped),
+        answered(14, 1),
+        at(
+            22,
+            LogEntry::Recovered {
+                counter: 1,
+                count: 1,
+            },
+        ),
+        at(22, LogEntry::RecItem { item }),
+        sent(23, 2, 0, Op::Get, a, Body::absent()),
+        emitted(26, 2, 1, p),
+        answered(27, 2),
+    ];
+    let log = logged(rt.alloc(), 27, &lines)?;
+    let text = report_text(rt.alloc(), &log)?;
+    let wanted =
+        b"far 1 report\nsteps 27\nhistory 2\n1 0 put a 1 =p switch 5 14\n2 0 get a 1 =p server 23 27\ncontrol 4\nadmitted 4 0 a 1\nsnapshot 11 1 1 1\n0 a 1 =p\nstopped 13\nrecovered 22 1 1\na 1 =p\nmap 1\na 1 =p\nend\n";
     assert!(rt; text.as_slice() == wanted.as_slice());
     Ok(())
 }
@@ -272,39 +332,41 @@ fn is_last(lines: &[LogLine], places: &[Placed], record: &far_base::Record) -> b
     last == Some((record.num, record.body))
 }
 
-/// The keys that the history writes.
-fn written_keys(lines: &[LogLine], places: &[Placed]) -> usize {
-    let mut a = 0;
-    let mut b = 0;
+/// Whether the history writes the key.
+fn is_written(lines: &[LogLine], places: &[Placed], on: &Key) -> bool {
     for place in places {
         if let Some((_, what)) = sending_of(lines, place.op) {
-            if !place.read && what.key.text() == b"a".as_slice() {
-                a = 1;
-            }
-            if !place.read && what.key.text() == b"b".as_slice() {
-                b = 1;
+            if !place.read && what.key == *on {
+                return true;
             }
         }
     }
-    a + b
+    false
+}
+
+/// What made-up lines are made of.
+#[derive(Drop)]
+struct Words {
+    keys: [Key; 2],
+    bodies: [Body; 2],
 }
 
 /// A made-up line of operations below eight, on two keys, with numbers below five.
-fn made_up_line(seed: u64, moment: u64) -> Result<LogLine, Fail> {
+fn made_up_line(words: &Words, seed: u64, moment: u64) -> LogLine {
     let op = (seed / 7 % 8) as u32;
     let num = seed / 59 % 5;
-    let text = body([b"v".as_slice(), b"w".as_slice()][(seed / 307 % 2) as usize])?;
-    let on = [b"a".as_slice(), b"b".as_slice()][(seed / 613 % 2) as usize];
+    let text = words.bodies[(seed / 307 % 2) as usize];
+    let on = words.keys[(seed / 613 % 2) as usize];
     match seed % 8 {
-        0 | 1 => sent_on(on, moment, op, Op::Put, text),
-        2 => sent_on(on, moment, op, Op::Get, Body::absent()),
-        3 => Ok(numbered(moment, op, num)),
-        4 | 5 => Ok(emitted(moment, op, num, text)),
-        6 => Ok(answered(moment, op)),
-        _ => Ok(LogLine {
+        0 | 1 => sent(moment, op, op / 2, Op::Put, on, text),
+        2 => sent(moment, op, op / 2, Op::Get, on, Body::absent()),
+        3 => numbered(moment, op, num),
+        4 | 5 => emitted(moment, op, num, text),
+        6 => answered(moment, op),
+        _ => LogLine {
             moment,
             entry: LogEntry::Stopped,
-        }),
+        },
     }
 }
 
@@ -313,38 +375,46 @@ fn next_seed(seed: u64) -> u64 {
         .wrapping_add(1_442_695_040_888_963_407)
 }
 
-fn made_up_log(alloc: Global, first: u64) -> Result<Log, Fail> {
+fn made_up_log(alloc: Global, words: &Words, first: u64) -> Result<Log, Fail> {
     let mut log = Log::new(alloc);
-    log.reserve(40)?;
     let mut seed = first;
     for i in 0..40u64 {
         seed = next_seed(seed);
-        let line = made_up_line(seed >> 20, i / 4)?;
-        log.reserve(1)?;
-        log.push(line);
+        add(&mut log, &made_up_line(words, seed >> 20, i / 4))?;
     }
     Ok(log)
 }
 
-fn agrees(rt: &impl Abort, alloc: Global, log: &Log) -> Result<usize, Fail> {
+/// How many places the history has, which is as the definition says, and so is the final map.
+fn agrees(rt: &impl Abort, alloc: Global, words: &Words, log: &Log) -> Result<usize, Fail> {
     let places = history(alloc, log)?;
     assert!(rt; is_history(log.lines(), &places));
     let records = final_map(alloc, log)?;
-    assert_eq!(rt; records.len(), written_keys(log.lines(), &places));
     for record in &records {
         assert!(rt; is_last(log.lines(), &places, record));
     }
+    let mut count = 0usize;
+    for on in &words.keys {
+        if is_written(log.lines(), &places, on) {
+            count = count.saturating_add(1);
+        }
+    }
+    assert_eq!(rt; records.len(), count);
     Ok(places.len())
 }
 
 #[test]
 fn made_up_logs_have_the_history_of_the_definition(rt: HostRuntime) -> Result<(), Fail> {
+    let words = Words {
+        keys: [key(b"a")?, key(b"b")?],
+        bodies: [body(b"v")?, body(b"w")?],
+    };
     let mut seed = 2026;
     let mut placed = 0usize;
     for _ in 0..60u64 {
         seed = next_seed(seed);
-        let log = made_up_log(rt.alloc(), seed)?;
-        placed = agrees(&rt, rt.alloc(), &log)?.saturating_add(placed);
+        let log = made_up_log(rt.alloc(), &words, seed)?;
+        placed = agrees(&rt, rt.alloc(), &words, &log)?.saturating_add(placed);
     }
     assert!(rt; placed > 100);
     Ok(())
