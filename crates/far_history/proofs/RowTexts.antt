@@ -1,5 +1,5 @@
 -- The line of an operation by its row is that by the log.
-use Rattle.std.proofs.Common.{◌≡◌, ℕ, List, [], ◌∷◌, ◌++◌, get_or, refl, sym, ap, subst, Option, None, Some, ◌∙◌}
+use Rattle.std.proofs.Common.{◌≡◌, ℕ, List, [], ◌∷◌, ◌++◌, get_or, refl, ap, subst, Option, None, Some, ◌∙◌}
 use Rattle.far_base.specs.declared.plan.OpLine.{OpLine}
 use Rattle.far_base.specs.declared.log.LogLine.{LogLine}
 use Rattle.far_base.specs.declared.log.Placed.{Placed}

@@ -1,17 +1,14 @@
 -- One more line before those that a table tells of.
-use Rattle.std.proofs.Common.{◌≡◌, ◌≢◌, ℕ, ◌+◌, ◌<◌, ◌≤◌, ◌⊎◌, Bool, true, false, List, [], ◌∷◌, length, get_or, set, take, drop, ◌++◌, refl, sym, ap, subst, inl, inr, arith, Option, None, Some, ◌==◌}
+use Rattle.std.proofs.Common.{◌≡◌, ◌≢◌, ℕ, ◌<◌, ◌≤◌, List, [], ◌∷◌, length, get_or, set, take, drop, ◌++◌, refl, sym, subst, inl, inr, arith, None, Some, ◌==◌}
 use Rattle.std.specs.Prelude.{if◌then◌else◌}
 use Rattle.std.proofs.lemmas.List.{get_or-set_same, get_or-set_other, length-set, take_at}
 use Rattle.std.proofs.lemmas.Bool.Decides.{eqb_tells}
-use Rattle.far_base.specs.declared.plan.OpLine.{OpLine}
 use Rattle.far_base.specs.declared.log.LogLine.{LogLine}
 use Rattle.far_base.specs.declared.log.LogEntry.{LogEntry}
 use Rattle.far_base.specs.declared.log.LogEntry.TheVariants.{Sent, Numbered, Emitted, Answered, Admitted, Evicted, Kept, Snapped, SnapItem, Stopped, Recovered, RecItem}
-use Rattle.far_model.specs.Log.{At, Answer, or_later, sending, numbering, emission, answering}
-use Rattle.far_history.specs.declared.told.Sending.{Sending}
-use Rattle.far_history.specs.declared.told.Reply.{Reply}
+use Rattle.far_model.specs.Log.{Answer}
 use Rattle.far_history.specs.declared.told.Told.{Told}
-use Rattle.far_history.specs.Told.{op_bound_of, unheard, noted, noted_entry, sending_told, reply_told, what_of, moment_of, IsRow}
+use Rattle.far_history.specs.Told.{op_bound_of, unheard, noted, noted_entry, IsRow}
 
 abbrev line_of : ℕ → LogEntry → LogLine
 line_of moment entry = record { moment = moment; entry = entry }

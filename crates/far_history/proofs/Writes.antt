@@ -1,5 +1,5 @@
 -- The entries that the walk over the history leaves are the last writes by key.
-use Rattle.std.proofs.Common.{◌≡◌, ◌≢◌, ℕ, ◌⊎◌, Bool, true, false, List, [], ◌∷◌, map, refl, sym, ap, subst, inl, inr, Option, None, Some, ◌∙◌}
+use Rattle.std.proofs.Common.{◌≡◌, ◌≢◌, ℕ, Bool, true, false, List, [], ◌∷◌, map, refl, sym, ap, subst, inl, inr, Option, None, Some, ◌∙◌}
 use Rattle.std.specs.Prelude.{if◌then◌else◌, slice_index_or}
 use Rattle.std.specs.declared.cmp.Ordering.{Ordering}
 use Rattle.std.specs.declared.cmp.Ordering.TheVariants.{Less, Equal, Greater}
@@ -13,7 +13,7 @@ use Rattle.far_base.specs.declared.log.LogLine.{LogLine}
 use Rattle.far_base.specs.declared.log.Placed.{Placed}
 use Rattle.far_model.specs.Members.{Among, Each, Pairs}
 use Rattle.far_model.specs.Log.{At, same_key, sending}
-use Rattle.far_model.specs.History.{Held, IsPlace, IsHistory, key_of, line_key, line_body, written_by, last_write, held_in, IsKeyBefore, IsFinalMap}
+use Rattle.far_model.specs.History.{Held, IsPlace, IsHistory, key_of, written_by, last_write, held_in, IsKeyBefore, IsFinalMap}
 use Rattle.far_history.specs.declared.told.Sending.{Sending}
 use Rattle.far_history.specs.declared.told.Told.{Told}
 use Rattle.far_history.specs.declared.last_writes.LastWrite.{LastWrite}

@@ -1,5 +1,5 @@
 -- The report of a log: its history, its control entries and the map that it leaves.
-use Rattle.std.specs.Prelude.{◌≡◌, ℕ, Bool, true, false, if◌then◌else◌, List, [], ◌∷◌, ◌++◌, length, count_by, Option, None, Some, codes}
+use Rattle.std.specs.Prelude.{◌≡◌, ℕ, Bool, true, false, if◌then◌else◌, List, [], ◌∷◌, ◌++◌, length, count_by, Option, Some, codes}
 use Rattle.std.specs.Fmt.{decimal}
 use Rattle.far_base.specs.Key.{key_text}
 use Rattle.far_base.specs.declared.plan.Op.{Op}
@@ -8,7 +8,7 @@ use Rattle.far_base.specs.declared.plan.OpLine.{OpLine}
 use Rattle.far_base.specs.declared.record.Record.{Record}
 use Rattle.far_base.specs.declared.log.LogLine.{LogLine}
 use Rattle.far_base.specs.declared.log.LogEntry.{LogEntry}
-use Rattle.far_base.specs.declared.log.LogEntry.TheVariants.{Sent, Numbered, Emitted, Answered, Admitted, Evicted, Kept, Snapped, SnapItem, Stopped, Recovered, RecItem}
+use Rattle.far_base.specs.declared.log.LogEntry.TheVariants.{Admitted, Evicted, Kept, Snapped, SnapItem, Stopped, Recovered, RecItem}
 use Rattle.far_base.specs.declared.log.Placed.{Placed}
 use Rattle.far_model.specs.Log.{LogView, At, Answer, sending, emission, answering}
 use Rattle.far_model.specs.History.{IsHistory, IsFinalMap}

@@ -1,8 +1,7 @@
 -- The lines of the history by the rows of the operations.
-use Rattle.std.specs.Prelude.{ℕ, List, [], ◌∷◌, ◌++◌, length, slice_index_or, codes, Option, None, Some}
+use Rattle.std.specs.Prelude.{ℕ, List, [], ◌∷◌, ◌++◌, length, slice_index_or, codes, Option, Some}
 use Rattle.std.specs.Fmt.{decimal}
 use Rattle.far_base.specs.declared.log.Placed.{Placed}
-use Rattle.far_model.specs.Log.{At, Answer}
 use Rattle.far_history.specs.declared.told.Sending.{Sending}
 use Rattle.far_history.specs.declared.told.Reply.{Reply}
 use Rattle.far_history.specs.declared.told.Told.{Told}

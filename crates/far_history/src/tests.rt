@@ -1,5 +1,5 @@
 use super::*;
-use far_base::{Body, Key, Op, OpLine};
+use far_base::{Body, Key, Op, OpLine, Record};
 use std::alloc::Global;
 use std::process::Abort;
 use std::test::Fail;
@@ -130,15 +130,18 @@ fn at(moment: u64, entry: LogEntry) -> LogLine {
     LogLine { moment, entry }
 }
 
+fn first_write(on: Key, text: Body) -> Record {
+    Record {
+        key: on,
+        num: 1,
+        body: text,
+    }
+}
+
 #[test]
 fn control_entries_are_reported_in_their_order(rt: HostRuntime) -> Result<(), Fail> {
     let a = key(b"a")?;
     let p = body(b"p")?;
-    let item = far_base::Record {
-        key: a,
-        num: 1,
-        body: p,
-    };
     let near = LogEntry::Emitted {
         op: 1,
         num: 1,
@@ -165,7 +168,13 @@ fn control_entries_are_reported_in_their_order(rt: HostRuntime) -> Result<(), Fa
                 count: 1,
             },
         ),
-        at(11, LogEntry::SnapItem { slot: 0, item }),
+        at(
+            11,
+            LogEntry::SnapItem {
+                slot: 0,
+                item: first_write(a, p),
+            },
+        ),
         at(13, LogEntry::Stopped),
         answered(14, 1),
         at(
@@ -175,7 +184,12 @@ fn control_entries_are_reported_in_their_order(rt: HostRuntime) -> Result<(), Fa
                 count: 1,
             },
         ),
-        at(22, LogEntry::RecItem { item }),
+        at(
+            22,
+            LogEntry::RecItem {
+                item: first_write(a, p),
+            },
+        ),
         sent(23, 2, 0, Op::Get, a, Body::absent()),
         emitted(26, 2, 1, p),
         answered(27, 2),
@@ -320,7 +334,7 @@ fn is_history(lines: &[LogLine], places: &[Placed]) -> bool {
 }
 
 /// Whether the record is what the last write of its key in the history set it to.
-fn is_last(lines: &[LogLine], places: &[Placed], record: &far_base::Record) -> bool {
+fn is_last(lines: &[LogLine], places: &[Placed], record: &Record) -> bool {
     let mut last = None;
     for place in places {
         if let Some((_, what)) = sending_of(lines, place.op) {

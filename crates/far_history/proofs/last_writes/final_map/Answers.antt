@@ -1,12 +1,11 @@
-use Rattle.std.proofs.Common.{◌≡◌, ℕ, List, [], map, get_or, ap, ◌∙◌, sym, subst}
+use Rattle.std.proofs.Common.{ℕ, List, [], map, get_or, ap, ◌∙◌, sym, subst}
 use Rattle.std.proofs.lemmas.Result.{IfOk-weaker}
 use Rattle.far_base.specs.declared.log.LogLine.{LogLine}
 use Rattle.far_base.specs.declared.log.Placed.{Placed}
-use Rattle.far_base.specs.declared.record.Record.{Record}
 use Rattle.far_model.specs.History.{IsHistory, IsFinalMap}
 use Rattle.far_history.specs.declared.told.Told.{Told}
 use Rattle.far_history.specs.Told.{unheard, IsRow}
-use Rattle.far_history.specs.LastWrites.{entries_after, record_of, IsMapOfHistory}
+use Rattle.far_history.specs.LastWrites.{entries_after, record_of}
 use Rattle.far_history.proofs.Writes.{is_final_map}
 use Rattle.far_history.proofs.last_writes.final_map.Goals as goal
 

@@ -1,4 +1,4 @@
-use Rattle.std.proofs.Common.{◌≡◌, ℕ, suc, ◌+◌, ◌-◌, ◌^◌, ◌<◌, ◌≤◌, length, get_or, take, drop, drop-cons, List, ◌∷◌, ◌++◌, arith, sym, ap, subst, ◌∙◌}
+use Rattle.std.proofs.Common.{◌≡◌, ℕ, suc, ◌-◌, ◌<◌, ◌≤◌, length, get_or, take, drop, drop-cons, List, ◌∷◌, ◌++◌, arith, sym, ap, subst, ◌∙◌}
 use Rattle.far_base.specs.declared.log.LogLine.{LogLine}
 use Rattle.far_history.specs.declared.told.Told.{Told}
 use Rattle.far_history.specs.Told.{op_bound_of, unheard, noted, IsRow}

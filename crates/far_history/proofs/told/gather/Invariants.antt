@@ -1,4 +1,4 @@
-use Rattle.std.proofs.Common.{◌≡◌, ℕ, ◌^◌, ◌<◌, ◌≤◌, get_or, length, drop}
+use Rattle.std.proofs.Common.{ℕ, ◌^◌, ◌<◌, ◌≤◌, get_or, length, drop}
 use Rattle.far_base.specs.declared.log.LogLine.{LogLine}
 use Rattle.far_history.specs.Told.{op_bound_of, unheard, IsRow}
 use Rattle.far_history.proofs.told.gather.Given as goal
