@@ -1,6 +1,7 @@
 mod Cold
 mod Delivering
 mod Entries
+mod Histories
 mod Lists
 mod Picking
 mod Running

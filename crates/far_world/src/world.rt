@@ -34,10 +34,12 @@ impl Model for World {
 ghost use Rattle.std.specs.Prelude.{◌≡◌, ◌≤◌, ◌<◌, ◌++◌, [], ◌∷◌, false, true, suc, length, replicate, IfOk, OnOk, OnErr};
 ghost use Rattle.far_base.specs.declared.plan.TheConstants.{OP_LIMIT};
 ghost use Rattle.far_model.specs.Events as model;
+ghost use Rattle.far_model.specs.Answered.{AllAnswered};
 ghost use Rattle.far_model.specs.Runs as runs;
 ghost use Rattle.far_model.specs.State.{opening, clients_from};
 ghost use Rattle.far_model.specs.Uncached.{IsUncachedPlan};
 ghost use Rattle.far_model.specs.Work.{work_left};
+ghost use Rattle.far_world.specs.Linearizable.{HasOneLegalHistory};
 ghost use Rattle.far_world.specs.WorldView.{IsRunOf};
 
 #[tactic(auto, using(crate::proofs::Scripts::clients_more))]
@@ -153,7 +155,13 @@ impl World {
         ensures steps { result.now.steps ≡ self.now.state.steps }
         ensures lines { result.now.lines ≡ self.now.state.log }
         ensures run { IsRunOf self.now.plan self.now.events self.now.state }
+        // The history of the log is legal and keeps real-time order, whatever happened in which order.
+        ensures history { HasOneLegalHistory self.now.state.log }
+        ensures answered { runs.is_finished self.now.plan self.now.state ≡ true → AllAnswered self.now.plan self.now.state }
     {
+        far_laws::coherent_log();
+        run_laws::uncached_runs_are_coherent();
+        run_laws::finished_is_answered();
         &self.log
     }
 
