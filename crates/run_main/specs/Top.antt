@@ -1,11 +1,11 @@
 -- What a top call does: what is due for its words and its input, and what it writes.
 use Rattle.std.specs.Prelude.{◌≡◌, ◌≢◌, ℕ, ◌<◌, ◌≤◌, ◌⊎◌, Bool, true, List, [], ◌∷◌, ◌++◌, length, take, Option, None, Some, codes}
-use Rattle.far_base.specs.PlanView.{PlanView}
 use Rattle.far_base.specs.declared.event.Event.{Event}
 use Rattle.far_base.specs.declared.log.Placed.{Placed}
 use Rattle.far_history.specs.Report.{IsReport}
 use Rattle.far_model.specs.History.{IsHistory, IsLinearizable}
-use Rattle.far_model.specs.Log.{LogView, answering}
+use Rattle.far_model.specs.Answered.{AllAnswered}
+use Rattle.far_model.specs.Log.{LogView}
 use Rattle.far_model.specs.Runs.{run, IsRun, IsPickedFrom, listed_pick}
 use Rattle.far_model.specs.State.{State, opening}
 use Rattle.run_main.specs.BaseForm.{WorkView, IsBaseForm}
@@ -34,10 +34,6 @@ log_of s = record { steps = s.steps; lines = s.log }
 pub record IsRunOf (w : WorkView) (events : List Event) : Type 0 where
   pub enabled : IsRun w.plan (opening w.plan) events
   pub picked : IsPickedFrom w.plan (listed_pick w.picks) 0 (opening w.plan) events
-
--- every operation of the plan is answered
-abbrev pub AllAnswered : PlanView → State → Type 0
-AllAnswered plan s = (op : ℕ) → 1 ≤ op → op ≤ length plan.ops → answering s.log op ≢ None
 
 -- the input is a workload, and the text is the report of its run by its picks: every operation is answered, and the
 -- history of the run is legal and keeps real-time order

@@ -23,14 +23,6 @@ impl<T: Drop> From<AllocFailed<T>> for BaseFault {
     }
 }
 
-impl From<Memory> for BaseFault {
-    ghost from_gives = { λ _ e. e ≡ BaseFault.Memory };
-
-    fn from(_refused: Memory) -> Self {
-        BaseFault::Memory
-    }
-}
-
 /// A workload of the base form: a plan of gets and puts with no orders and no hot keys, and the
 /// listed picks. Contracts see the plan and the list of picks.
 #[derive(Drop)]

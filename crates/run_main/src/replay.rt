@@ -6,13 +6,23 @@ use far_world::World;
 
 use crate::base_form::{BaseFault, BaseWork, read_base};
 
-ghost use Rattle.std.specs.Prelude.{◌≡◌, List, [], true, length, IfOk, OnOk, Err};
-ghost use Rattle.far_base.specs.declared.event.Event.{Event};
+ghost use Rattle.std.specs.Prelude.{◌≡◌, ◌≤◌, [], true, length, IfOk, OnOk, Err};
 ghost use Rattle.far_model.specs.Runs as runs;
 ghost use Rattle.far_model.specs.State.{opening};
 ghost use Rattle.far_model.specs.Uncached.{IsUncachedPlan};
 ghost use Rattle.run_main.specs.BaseForm.{WorkView, IsBaseForm};
-ghost use Rattle.run_main.specs.Top.{IsReplayOf, IsPickedRun};
+ghost use Rattle.run_main.specs.Top.{IsReplayOf};
+ghost use Rattle.run_main.specs.declared.top.TheConstants.{INPUT_LIMIT};
+
+impl From<Memory> for BaseFault {
+    ghost use Rattle.run_main.specs.declared.base_form.BaseFault.TheVariants.{Memory};
+
+    ghost from_gives = { λ _ fault. fault ≡ Memory };
+
+    fn from(_refused: Memory) -> Self {
+        BaseFault::Memory
+    }
+}
 
 /// The pick of this number, counted from 0: a listed one, and after the listed ones 0.
 fn listed_pick(picks: &[u64], number: usize) -> u64
