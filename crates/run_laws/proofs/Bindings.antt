@@ -9,7 +9,7 @@ use Rattle.far_model.specs.Invariants.{entry, slot_if}
 use Rattle.run_laws.proofs.Slots.{same_key_true, same_key_refl, there_is, bound_there, both, IsEntry, entry_is}
 use Rattle.run_laws.proofs.Stored.{same_key_false}
 
-length-map : {A B : Type 0} (f : A → B) (xs : List A) → length (map f xs) ≡ length xs
+pub length-map : {A B : Type 0} (f : A → B) (xs : List A) → length (map f xs) ≡ length xs
 length-map f [] = refl
 length-map f (x ∷ xs) = ap suc (length-map f xs)
 

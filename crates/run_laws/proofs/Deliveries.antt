@@ -36,7 +36,7 @@ counts_removed p xs i x h e =
     let one : cond {A = ℕ} (p (get_or xs i x)) 1 0 ≡ 1 = ap (λ y. cond {A = ℕ} (p y) 1 0) (get_or_from_slice_get xs i x x h) ∙ ap (λ b. cond {A = ℕ} b 1 0) e in
     omega (arith, sum, one)
 
-counts_one : {A : Type 0} (p : A → Bool) (xs : List A) (y : A) → Among y xs → p y ≡ true → 0 < count_by p xs
+pub counts_one : {A : Type 0} (p : A → Bool) (xs : List A) (y : A) → Among y xs → p y ≡ true → 0 < count_by p xs
 counts_one p xs y a e =
     let at = place_of y xs a in
     let h = counts_removed p xs at.0 y at.1 e in

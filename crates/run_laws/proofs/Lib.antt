@@ -1,5 +1,6 @@
 pub mod Admissions
 pub mod Answers
+pub mod Arrivals
 pub mod Bindings
 pub mod Calm
 pub mod Coherence
