@@ -7,6 +7,7 @@ pub mod Flights
 pub mod History
 pub mod Invariants
 pub mod KeyedRecords
+pub mod Lasting
 pub mod Log
 pub mod Members
 pub mod Parties

@@ -3,4 +3,4 @@
 
 mod runs;
 
-pub use runs::uncached_runs_are_coherent;
+pub use runs::{lasting_runs_are_coherent, uncached_runs_are_coherent};
