@@ -198,6 +198,7 @@ module _ (plan : PlanView) (s : State) (k : Keeps plan s) (runs : s.running ≡ 
               same = h.same;
               floor = λ read. shown_by_lasts s t note refl plan key h.serves.sent.sent_at num h.serves.sent.before (h.floor read);
               own = λ write. has_own_lasts plan (Its op) note s t g s.steps (now s) op num (omega arith) (h.own write);
+              stored = λ write. inr h.known;
             };
             about = λ o n. n;
           }, tt)))

@@ -89,8 +89,8 @@ was_written plan s k moment key num body h =
       write = stands.write; on_key = h.on_key; same_body = h.same_body;
     }
 
-emission : (plan : PlanView) (s : State) → Keeps plan s → (moment op num : ℕ) (body : Option (List ℕ)) → AnswerStands plan s moment op num body → IsEmission s.log moment op num body
-emission plan s k moment op num body h = record {
+emission : (plan : PlanView) (s : State) → Keeps plan s → (moment op num : ℕ) (body : Option (List ℕ)) (near : Bool) → AnswerStands plan s moment op num body near → IsEmission s.log moment op num body
+emission plan s k moment op num body near h = record {
   sent = record { sent_at = h.sent.sent_at; line = line_of plan.ops op; sent = h.sent.sent; before = h.sent.before };
   source = λ above. (h.written, subst (λ key. WasWritten s.log moment key num h.written) (sym h.on_key) (was_written plan s k moment h.key num h.written (h.source.some above)), h.same);
   unwritten = λ read zero. h.same read ∙ h.source.none zero;
@@ -103,7 +103,7 @@ stands plan s k moment (Numbered op num) h = record {
   sent = record { sent_at = h.sent.sent_at; line = line_of plan.ops op; sent = h.sent.sent; before = h.sent.before };
   write = h.write; above = h.above;
 }
-stands plan s k moment (Emitted op num body near) h = emission plan s k moment op num body h
+stands plan s k moment (Emitted op num body near) h = emission plan s k moment op num body near h
 stands plan s k moment (Answered op) h = h
 stands plan s k moment _ h = tt
 

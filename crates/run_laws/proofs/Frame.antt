@@ -156,6 +156,10 @@ module _ (plan : PlanView) (Mine : ℕ → Type 0) (notes : List LogEntry) (s t 
   pub past : s.steps ≤ t.steps
   past = let e = g.steps in omega arith
 
+  stored_lasts : (moment op num : ℕ) (near : Bool) (key : List ℕ) → ((near ≡ true) × IsOwnNumber s.log moment op num) ⊎ (num ≤ (look plan s key).num) → ((near ≡ true) × IsOwnNumber t.log moment op num) ⊎ (num ≤ (look plan t key).num)
+  stored_lasts moment op num near key (inl p) = inl (p.0, own_lasts moment moment op num (omega arith) p.1)
+  stored_lasts moment op num near key (inr b) = inr (le_trans b (g.more key))
+
   -- a line stands as it stood
   line_lasts : (moment : ℕ) (entry : LogEntry) → moment ≤ s.steps → LineStands plan s moment entry → LineStands plan t moment entry
   line_lasts moment (Sent op line) b h = h
@@ -169,6 +173,7 @@ module _ (plan : PlanView) (Mine : ℕ → Type 0) (notes : List LogEntry) (s t 
     same = h.same;
     floor = λ read. shown_by_lasts s t notes g.log plan h.key h.sent.sent_at num (le_trans h.sent.before b) (h.floor read);
     own = λ write. has_own_lasts moment moment op num (omega arith) (h.own write);
+    stored = λ write. stored_lasts moment op num near h.key (h.stored write);
   }
   line_lasts moment (Answered op) b h = answering_lasts moment moment op (omega arith) h
   line_lasts moment _ b h = tt

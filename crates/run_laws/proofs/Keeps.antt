@@ -54,7 +54,7 @@ pub record NumberStands (plan : PlanView) (s : State) (moment op num : ℕ) : Ty
   pub above : 0 < num
   pub counted : s.running ≡ true → num ≤ s.switch.counter
 
-pub record AnswerStands (plan : PlanView) (s : State) (moment op num : ℕ) (body : Option (List ℕ)) : Type 0 where
+pub record AnswerStands (plan : PlanView) (s : State) (moment op num : ℕ) (body : Option (List ℕ)) (near : Bool) : Type 0 where
   pub sent : IsSent plan s.log moment op
   pub key : List ℕ
   pub on_key : (line_of plan.ops op).key ≡ key
@@ -63,11 +63,12 @@ pub record AnswerStands (plan : PlanView) (s : State) (moment op num : ℕ) (bod
   pub same : is_read (line_of plan.ops op).op ≡ true → body ≡ written
   pub floor : is_read (line_of plan.ops op).op ≡ true → ShowsAtMostBy plan s.log key sent.sent_at num
   pub own : is_read (line_of plan.ops op).op ≡ false → HasOwnNumber s.log moment op num
+  pub stored : is_read (line_of plan.ops op).op ≡ false → ((near ≡ true) × IsOwnNumber s.log moment op num) ⊎ (num ≤ (look plan s key).num)
 
 abbrev pub LineStands : PlanView → State → ℕ → LogEntry → Type 0
 LineStands plan s moment (Sent op line) = line ≡ line_of plan.ops op
 LineStands plan s moment (Numbered op num) = NumberStands plan s moment op num
-LineStands plan s moment (Emitted op num body near) = AnswerStands plan s moment op num body
+LineStands plan s moment (Emitted op num body near) = AnswerStands plan s moment op num body near
 LineStands plan s moment (Answered op) = IsAnswering s.log moment op
 LineStands plan s moment _ = Unit {0}
 

@@ -30,7 +30,7 @@ use Rattle.far_model.specs.Runs.{run, IsRun}
 use Rattle.far_model.specs.State.{State, opening}
 use Rattle.far_model.proofs.Members.{among_at}
 use Rattle.flight_laws.proofs.Lists.{get_or-replicate_default}
-use Rattle.flight_laws.proofs.Handling.{IsInFlight, flight_opens, flight_step}
+use Rattle.flight_laws.proofs.Handling.{IsInFlight, flight_opens, flight_step, flight_run}
 use Rattle.flight_laws.proofs.WithoutCache.{answers_in_kind}
 use Rattle.run_laws.proofs.Admissions.{want_keeps, want_sits}
 use Rattle.run_laws.proofs.Arrivals.{admit_keeps, ack_keeps}
@@ -169,6 +169,10 @@ opening_sits plan = record {
     slot i = get_or-replicate_default plan.config.slots i empty_slot
     state : (i : ℕ) → state_at (opening plan).controller.slots i ≡ Free
     state i = get_or-replicate_default plan.config.slots i Free
+
+-- each open operation of a run has one packet on its way
+pub run_flies : (plan : PlanView) (events : List Event) → IsRun plan (opening plan) events → OneFlightPerOperation (run plan (opening plan) events)
+run_flies plan events r = (flight_run plan (opening plan) events (flight_opens plan) r).one
 
 pub lasting_runs : (plan : PlanView) (events : List Event) → IsPlan plan → IsRun plan (opening plan) events → IsLasting plan (opening plan) events → Lasts plan (run plan (opening plan) events)
 lasting_runs plan events valid r l =

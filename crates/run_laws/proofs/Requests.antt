@@ -169,6 +169,7 @@ module _ (plan : PlanView) (s : State) (k : Keeps plan s) (runs : s.running ≡ 
                   floor = λ read. shown_by_lasts s t (Emitted op slot.num slot.body true ∷ []) refl plan key h.serves.sent.sent_at slot.num h.serves.sent.before
                     (shown_shown_by plan s.log key h.serves.sent.sent_at slot.num (subst (λ n. ShowsAtMost plan s.log key n) reaches (k.covers runs key)));
                   own = λ write. absurd (let e = sym h.read ∙ write in cc);
+                  stored = λ write. absurd (let e = sym h.read ∙ write in cc);
                 };
                 about = λ o n. n;
               }, tt)))
@@ -243,6 +244,7 @@ module _ (plan : PlanView) (s : State) (k : Keeps plan s) (runs : s.running ≡ 
               same = λ read. absurd (let e = sym h.write ∙ read in cc);
               floor = λ read. absurd (let e = sym h.write ∙ read in cc);
               own = λ write. record { own = w.counter; numbered_at = now s; numbered = note_member s t (write_notes w) refl _ (inl refl); before = omega arith; within = omega arith };
+              stored = λ write. inl (refl, own_now t (write_notes w) w.counter refl (inl refl));
             };
             about = λ o n. n;
           }, tt))))

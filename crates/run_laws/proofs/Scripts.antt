@@ -37,7 +37,7 @@ pub record ServesSome (plan : PlanView) (s : State) (caller op : ℕ) : Type 0 w
   pub key : List ℕ
   pub serves : ServesOp plan s caller op key
 
-same_subject : (a b c d : ℕ) → OfOperation a b ≡ OfOperation c d → (a ≡ c) × (b ≡ d)
+pub same_subject : (a b c d : ℕ) → OfOperation a b ≡ OfOperation c d → (a ≡ c) × (b ≡ d)
 same_subject a b c d h = (cc, cc)
 
 serves_moved : (plan : PlanView) (s : State) (c o caller op : ℕ) (key : List ℕ) → ServesOp plan s c o key → OfOperation c o ≡ OfOperation caller op → ServesSome plan s caller op

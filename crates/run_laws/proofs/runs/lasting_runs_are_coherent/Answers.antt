@@ -1,7 +1,7 @@
 use Rattle.far_model.specs.Runs.{run}
 use Rattle.far_model.specs.State.{opening}
 use Rattle.run_laws.proofs.Coherence.{coherent}
-use Rattle.run_laws.proofs.LastingRuns.{lasting_runs}
+use Rattle.run_laws.proofs.LastingRuns.{lasting_runs, run_flies}
 use Rattle.run_laws.proofs.Meanings.{log_sound, numbers_sound}
 use Rattle.run_laws.proofs.runs.lasting_runs_are_coherent.Goals as goal
 
@@ -15,7 +15,7 @@ pub returns-clause-logs : goal.returns-clause-logs
 returns-clause-logs c plan events valid r l = log_sound plan (run plan (opening plan) events) (lasting_runs plan events valid r l).keeps
 
 pub returns-clause-numbers : goal.returns-clause-numbers
-returns-clause-numbers c plan events valid r l = numbers_sound plan (run plan (opening plan) events) (lasting_runs plan events valid r l).keeps
+returns-clause-numbers c plan events valid r l = numbers_sound plan (run plan (opening plan) events) (lasting_runs plan events valid r l).keeps (run_flies plan events r)
 
 pub returns-clause-slots : goal.returns-clause-slots
 returns-clause-slots c plan events valid r l = (lasting_runs plan events valid r l).seats.slots
