@@ -6,12 +6,14 @@ pub mod Evictions
 pub mod Flights
 pub mod History
 pub mod Invariants
+pub mod Kept
 pub mod KeyedRecords
 pub mod Lasting
 pub mod Log
 pub mod Members
 pub mod Parties
 pub mod Pass
+pub mod Past
 pub mod Replies
 pub mod Rounds
 pub mod Runs

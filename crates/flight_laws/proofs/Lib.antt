@@ -1,3 +1,5 @@
+pub mod Bounds
+pub mod Finishing
 pub mod Handling
 pub mod Lists
 pub mod OneFlight
@@ -5,3 +7,4 @@ pub mod Passing
 pub mod Ruling
 pub mod Sends
 pub mod WithoutCache
+pub mod Working

@@ -1,5 +1,7 @@
 -- Lists of parties, and tests.
-use Rattle.std.proofs.Common.{◌≡◌, ℕ, zero, suc, Bool, true, false, cond, List, [], ◌∷◌, set, get_or, replicate, refl, ap}
+use Rattle.std.proofs.Common.{arith, ◌≡◌, ℕ, zero, suc, Bool, true, false, cond, List, [], ◌∷◌, set, get_or, replicate, refl, ap}
+use Rattle.std.specs.List.{sum_by}
+use Rattle.std.proofs.lemmas.List.Sums.{sum_by-cons}
 
 -- what holds of both branches
 pub by_test : {A : Type 0} (P : A → Type 0) (b : Bool) (x y : A) → P x → P y → P (cond b x y)
@@ -31,3 +33,9 @@ set_field f (y ∷ ys) zero x d e zero = e
 set_field f (y ∷ ys) zero x d e (suc c) = refl
 set_field f (y ∷ ys) (suc i) x d e zero = refl
 set_field f (y ∷ ys) (suc i) x d e (suc c) = set_field f ys i x d e c
+
+-- a sum stays where the new element weighs what the old one did
+pub sum_by-set_same : {A : Type 0} (f : A → ℕ) (xs : List A) (i : ℕ) (x d : A) → f x ≡ f (get_or xs i d) → sum_by f (set xs i x) ≡ sum_by f xs
+sum_by-set_same f [] i x d e = refl
+sum_by-set_same f (y ∷ ys) zero x d e = omega (arith, e, sum_by-cons f x ys, sum_by-cons f y ys)
+sum_by-set_same f (y ∷ ys) (suc i) x d e = omega (arith, sum_by-set_same f ys i x d e, sum_by-cons f y (set ys i x), sum_by-cons f y ys)

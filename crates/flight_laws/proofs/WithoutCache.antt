@@ -116,7 +116,7 @@ more_messages plan rest x old new m a = by (among_append m rest (x ∷ []) a)
 
 module _ (plan : PlanView) (k : Keeping) (s : State) (uncached : IsUncached plan s) (rest : List Message) (old : (m : Message) → Among m rest → plain_message plan m) where
   -- the switch sends one packet on
-  passes : (p q : Packet) (n : ℕ) (to : Party) → GoesTo plan.config q to → IsUncached plan (switch_turn s rest p (record { view = opening_view plan.config 1 n; first = sent_to to q; second = None }))
+  pub passes : (p q : Packet) (n : ℕ) (to : Party) → GoesTo plan.config q to → IsUncached plan (switch_turn s rest p (record { view = opening_view plan.config 1 n; first = sent_to to q; second = None }))
   passes p q n to goes = record {
     switch = refl;
     running = uncached.running;
@@ -166,7 +166,7 @@ module _ (plan : PlanView) (k : Keeping) (s : State) (uncached : IsUncached plan
   not_kept c kept r e h = subst (λ b. IsPlainClient (preserves c b r)) (sym e) h
 
   -- a delivery, by the kind of the packet
-  handles : (hot : plan.config.hot ≡ 0) (p : Packet) (to : Party) → GoesTo plan.config p to → RepliesAt to p k.reply → IsUncached plan (handled plan k s rest to p)
+  pub handles : (hot : plan.config.hot ≡ 0) (p : Packet) (to : Party) → GoesTo plan.config p to → RepliesAt to p k.reply → IsUncached plan (handled plan k s rest to p)
   handles hot (GetReq caller op key) to goes ans = subst (λ w. IsUncached plan (handled plan k s rest w (GetReq caller op key))) (sym goes.0)
       (switched (GetReq caller op key) (GetFwd caller op key 0) s.switch.counter (Server (server_of plan.config key)) (get_pass plan.config 1 s.switch.counter caller op key hot) (refl, goes.1, refl))
   handles hot (WriteReq caller op key body) to goes ans = subst (λ w. IsUncached plan (handled plan k s rest w (WriteReq caller op key body))) (sym goes.0)

@@ -5,5 +5,5 @@
 mod flights;
 mod uncached;
 
-pub use flights::{one_flight, routes};
-pub use uncached::{uncached_passes, uncached_runs};
+pub use flights::{one_flight, routes, steps_counted};
+pub use uncached::{uncached_passes, uncached_quiet, uncached_runs, uncached_work};
