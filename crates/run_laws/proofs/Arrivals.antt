@@ -1,36 +1,35 @@
 -- Admissions arrive: at the switch, which takes the key, and back at the controller.
-use Rattle.std.proofs.Common.{◌≡◌, ◌≢◌, ℕ, zero, suc, ◌+◌, ◌<◌, ◌≤◌, ◌⊎◌, inl, inr, Bool, true, false, cond, List, [], ◌∷◌, ◌++◌, length, map, set, get_or, refl, sym, ap, ◌∙◌, subst, arith, eq-eqb, ne_eqb, eqb-true, ltb-true, lt-ltb}
+use Rattle.std.proofs.Common.{◌≡◌, ◌≢◌, ℕ, zero, suc, ◌<◌, ◌≤◌, ◌⊎◌, inl, inr, Bool, true, false, cond, List, [], ◌∷◌, ◌++◌, length, map, refl, sym, ap, ◌∙◌, subst, arith, eq-eqb, ne_eqb, eqb-true, lt-ltb}
 use Rattle.std.specs.Prelude.{Option, Some, None, if◌then◌else◌, ◌&&◌, nat_eq, nat_lt, slice_get}
 use Rattle.std.specs.List.{remove, count_by}
 use Rattle.std.proofs.lemmas.Option.{same_Some}
 use Rattle.std.proofs.lemmas.List.{length-set, get_or-set_same, get_or-set_other}
 use Rattle.far_base.specs.PlanView.{PlanView}
-use Rattle.far_base.specs.declared.log.LogEntry.{LogEntry}
 use Rattle.far_base.specs.declared.log.LogEntry.TheVariants.{Admitted}
 use Rattle.far_base.specs.declared.packet.Message.{Message}
 use Rattle.far_base.specs.declared.packet.Packet.{Packet}
-use Rattle.far_base.specs.declared.packet.Packet.TheVariants.{GetReq, WriteReq, GetFwd, WriteFwd, GetRep, WriteRep, GetAns, WriteAns, Hot, Admit, AdmitAck, Peek, PeekAns, Remove, RemoveAns, SnapStart, SnapBegun, SnapRead, SnapPart, Store, Stored, Release, Ask, Told, TopAsk, TopIs}
+use Rattle.far_base.specs.declared.packet.Packet.TheVariants.{Admit, AdmitAck}
 use Rattle.far_base.specs.declared.party.Party.{Party}
-use Rattle.far_base.specs.declared.party.Party.TheVariants.{Client, Switch, Server, Controller}
+use Rattle.far_base.specs.declared.party.Party.TheVariants.{Switch, Controller}
 use Rattle.far_base.specs.declared.plan.Config.{Config}
 use Rattle.far_base.specs.declared.slot_state.SlotState.{SlotState}
-use Rattle.far_base.specs.declared.slot_state.SlotState.TheVariants.{Free, Admitting, Held, Evicting}
-use Rattle.far_model.specs.Controller.{ControllerState, acknowledged, acked_state, with_state}
+use Rattle.far_base.specs.declared.slot_state.SlotState.TheVariants.{Free, Admitting, Held}
+use Rattle.far_model.specs.Controller.{acknowledged, acked_state, with_state}
 use Rattle.far_model.specs.Events.{controller_turn, switch_turn}
-use Rattle.far_model.specs.Evictions.{state_at, is_admitting, key_in, tag_in}
-use Rattle.far_model.specs.Invariants.{entry, slot_if, reach_by, IsSlotOf, FitsState, IsGiven, SlotsAreOwned, AdmissionIs, is_admission_of, admits_under, admission_count, AdmissionsInFlight}
+use Rattle.far_model.specs.Evictions.{state_at, is_admitting, key_in}
+use Rattle.far_model.specs.Invariants.{entry, slot_if, reach_by, IsSlotOf, FitsState, IsGiven, AdmissionIs, is_admission_of, admits_under, admission_count}
 use Rattle.far_model.specs.Members.{Among}
-use Rattle.far_model.specs.Parties.{Turn, idle}
-use Rattle.far_model.specs.Pass.{Passed, admits, dropped, is_slot_there, sent_to}
-use Rattle.far_model.specs.State.{State, now, noted}
-use Rattle.far_model.specs.View.{SlotView, SwitchView, slot_at, entry_place, unbound}
+use Rattle.far_model.specs.Parties.{idle}
+use Rattle.far_model.specs.Pass.{admits, dropped, is_slot_there, sent_to}
+use Rattle.far_model.specs.State.{State}
+use Rattle.far_model.specs.View.{SlotView, slot_at, entry_place, unbound}
 use Rattle.far_model.proofs.Members.{among_append, among_at, among_remove}
 use Rattle.run_laws.proofs.Admissions.{nat_cases}
 use Rattle.run_laws.proofs.Bindings.{length-map, new_slot, admit_view, view_here, view_there, place_here, entry_here, place_stays, entry_there}
 use Rattle.run_laws.proofs.Controls.{Controls, SlotSettles, slot_stays, controls_keep}
 use Rattle.run_laws.proofs.Deliveries.{counts_one}
 use Rattle.run_laws.proofs.Keeps.{AdmitsOther, IsDrawn, Relies, Keeps}
-use Rattle.run_laws.proofs.Seats.{counted, count_removed, count_append, count_one, owner, Seats, SameSeats, seats_last, unchanged_slots}
+use Rattle.run_laws.proofs.Seats.{counted, count_removed, count_append, count_one, owner, Seats, seats_last, unchanged_slots}
 use Rattle.run_laws.proofs.Slots.{key_cases, both, IsEntry, entry_is}
 
 state_within : (slots : List SlotState) (i : ℕ) (key : List ℕ) (tag : ℕ) → state_at slots i ≡ Admitting key tag → i < length slots
@@ -101,7 +100,7 @@ module _ (plan : PlanView) (s : State) (k : Keeps plan s) (h : Seats plan s) (n 
     -- another packet of this slot is not on its way
     alone : (m : Message) → Among m rest → is_admission_of i s.controller.epoch m.packet ≡ true → ⊥
     alone m a e = none_left s n admission (λ q. is_admission_of i s.controller.epoch q) at (both_true (nat_eq epoch s.controller.epoch) (nat_eq i i) (eq-eqb epoch s.controller.epoch same_epoch) (eq-eqb i i refl))
-      (let one = h.admissions.one i in let is : admission_count (state_at s.controller.slots i) ≡ 1 = ap admission_count state in omega (arith, one, is)) m a e
+        (let one = h.admissions.one i in let is : admission_count (state_at s.controller.slots i) ≡ 1 = ap admission_count state in omega (arith, one, is)) m a e
 
     entry_none : entry key s.switch ≡ None
     entry_none = go (entry_place key s.switch) refl
@@ -117,9 +116,18 @@ module _ (plan : PlanView) (s : State) (k : Keeps plan s) (h : Seats plan s) (n 
 
     controls : Controls plan [] s admitted_state
     controls = record {
-        log = refl; notes_are = tt; steps = refl; running = λ e. e; config = refl; counter = omega arith; servers = refl; waits = λ d. refl; left = λ d. refl; tags = omega arith;
-        bag = λ m a. message m (among_append m rest (ack ∷ []) a);
-      }
+      log = refl;
+      notes_are = tt;
+      steps = refl;
+      running = λ e. e;
+      config = refl;
+      counter = omega arith;
+      servers = refl;
+      waits = λ d. refl;
+      left = λ d. refl;
+      tags = omega arith;
+      bag = λ m a. message m (among_append m rest (ack ∷ []) a);
+    }
       where
         message : (m : Message) → Among m rest ⊎ Among m (ack ∷ []) → Among m s.bag ⊎ (Relies plan admitted_state m.packet × ((tag : ℕ) → IsDrawn s tag → AdmitsOther tag m.packet))
         message m (inl a) = inl (among_remove m s.bag n a)
@@ -132,16 +140,17 @@ module _ (plan : PlanView) (s : State) (k : Keeps plan s) (h : Seats plan s) (n 
     settles : (other : List ℕ) → (other ≡ key) ⊎ (other ≢ key) → SlotSettles plan s admitted_state other
     settles other (inr ne) = slot_stays plan [] s admitted_state k controls other (entry_there s.switch i key tag bound_within within free other ne (λ j valid key_is. h.slots.owned j other valid key_is))
     settles other (inl same) = subst (λ q. SlotSettles plan s admitted_state q) (sym same) (record {
-        reach = λ m. ap (reach_by m) here ∙ sym (ap (reach_by m) entry_none);
-        drawn = λ slot is. subst (λ (w : SlotView). IsDrawn admitted_state w.tag) (same_Some (new_slot key tag) slot (sym here ∙ is)) (record { below = its.0; admitted = λ m a. admitted m (among_append m rest (ack ∷ []) a) });
-        written = λ slot is latest. absurd (new_latest slot (same_Some (new_slot key tag) slot (sym here ∙ is)) latest);
-        current = λ own slot d is old under. absurd (d.admitted admission there_in_bag (ap (λ (w : SlotView). w.tag) (same_Some (new_slot key tag) slot (sym here ∙ is)) ∙ under));
-      })
+      reach = λ m. ap (reach_by m) here ∙ sym (ap (reach_by m) entry_none);
+      drawn = λ slot is. subst (λ (w : SlotView). IsDrawn admitted_state w.tag) (same_Some (new_slot key tag) slot (sym here ∙ is)) (record { below = its.0; admitted = λ m a. admitted m (among_append m rest (ack ∷ []) a) });
+      written = λ slot is latest. absurd (new_latest slot (same_Some (new_slot key tag) slot (sym here ∙ is)) latest);
+      current = λ own slot d is old under. absurd (d.admitted admission there_in_bag (ap (λ (w : SlotView). w.tag) (same_Some (new_slot key tag) slot (sym here ∙ is)) ∙ under));
+    })
       where
         admitted : (m : Message) → Among m rest ⊎ Among m (ack ∷ []) → AdmitsOther tag m.packet
         admitted m (inl a) = others_tag m a
         admitted m (inr (inl e)) = subst (λ (w : Message). AdmitsOther tag w.packet) (sym e) tt
         admitted m (inr (inr a)) = absurd a
+
         new_latest : (slot : SlotView) → new_slot key tag ≡ slot → slot.latest ≡ true → ⊥
         new_latest slot e l = let clash : false ≡ true = ap (λ (w : SlotView). w.latest) e ∙ l in cc
 
@@ -150,31 +159,35 @@ module _ (plan : PlanView) (s : State) (k : Keeps plan s) (h : Seats plan s) (n 
 
     admitted_sits : Seats plan admitted_state
     admitted_sits = record {
-        running = h.running;
-        slots = record {
-          epoch = h.slots.epoch;
-          bounds = length-set (map (unbound key) s.switch.bound) i (Some key) ∙ length-map (unbound key) s.switch.bound ∙ h.slots.bounds;
-          slots = length-set s.switch.slots i _ ∙ h.slots.slots;
-          states = h.slots.states;
-          fits = λ j. fits j (nat_cases j i);
-          apart = h.slots.apart; drawn = h.slots.drawn;
-          owned = λ j other valid key_is. owned j other (nat_cases j i) valid key_is;
-        };
-        admissions = record {
-          packets = λ m a. packet m (among_append m rest (ack ∷ []) a);
-          one = λ j. one j;
-          once = λ own. once own;
-        };
-      }
+      running = h.running;
+      slots = record {
+        epoch = h.slots.epoch;
+        bounds = length-set (map (unbound key) s.switch.bound) i (Some key) ∙ length-map (unbound key) s.switch.bound ∙ h.slots.bounds;
+        slots = length-set s.switch.slots i _ ∙ h.slots.slots;
+        states = h.slots.states;
+        fits = λ j. fits j (nat_cases j i);
+        apart = h.slots.apart;
+        drawn = h.slots.drawn;
+        owned = λ j other valid key_is. owned j other (nat_cases j i) valid key_is;
+      };
+      admissions = record {
+        packets = λ m a. packet m (among_append m rest (ack ∷ []) a);
+        one = λ j. one j;
+        once = λ own. once own;
+      };
+    }
       where
         view_i : slot_at admitted_state.switch i ≡ new_slot key tag
         view_i = view_here s.switch i key tag bound_within within free
+
         view_j : (j : ℕ) → j ≢ i → slot_at admitted_state.switch j ≡ slot_at s.switch j
         view_j j ne = view_there s.switch i key tag bound_within within free j ne
+
         fits : (j : ℕ) → (j ≡ i) ⊎ (j ≢ i) → FitsState (slot_at admitted_state.switch j) (state_at s.controller.slots j)
         fits j (inl e) = subst (λ q. FitsState (slot_at admitted_state.switch q) (state_at s.controller.slots q)) (sym e)
-          (subst (FitsState (slot_at admitted_state.switch i)) (sym state) (inr (subst (λ w. IsSlotOf key tag w) (sym view_i) (refl, refl, refl))))
+            (subst (FitsState (slot_at admitted_state.switch i)) (sym state) (inr (subst (λ w. IsSlotOf key tag w) (sym view_i) (refl, refl, refl))))
         fits j (inr ne) = subst (λ w. FitsState w (state_at s.controller.slots j)) (sym (view_j j ne)) (h.slots.fits j)
+
         owned : (j : ℕ) (other : List ℕ) → (j ≡ i) ⊎ (j ≢ i) → (slot_at admitted_state.switch j).valid ≡ true → (slot_at admitted_state.switch j).key ≡ Some other → entry_place other admitted_state.switch ≡ Some j
         owned j other (inl e) valid key_is =
             let mine : key ≡ other = same_Some key other (sym (ap (λ (w : SlotView). w.key) view_i) ∙ ap (λ q. (slot_at admitted_state.switch q).key) (sym e) ∙ key_is) in
@@ -184,27 +197,34 @@ module _ (plan : PlanView) (s : State) (k : Keeps plan s) (h : Seats plan s) (n 
             let key_is' = sym (ap (λ (w : SlotView). w.key) (view_j j ne)) ∙ key_is in
             let away = (h.slots.apart i j key other tag (slot_at s.switch j).tag (λ same. ne (sym same)) given (owner (slot_at s.switch j) (state_at s.controller.slots j) other (h.slots.fits j) valid' key_is')).0 in
             (place_stays s.switch i key tag bound_within within free other j (λ same. away (sym same)) (h.slots.owned j other valid' key_is')).0
+
         still : (q : Packet) → (is_admission_of i s.controller.epoch q ≡ true → ⊥) → AdmissionIs s q → AdmissionIs admitted_state q
-        still (Admit e j other own) lone a = (a.0, λ same.
-          let ne : j ≢ i = (λ eq. lone (both_true (nat_eq e s.controller.epoch) (nat_eq j i) (eq-eqb e s.controller.epoch same) (eq-eqb j i eq))) in
-          let f = a.1 same in (f.0, ap (λ (w : SlotView). w.valid) (view_j j ne) ∙ f.1))
+        still (Admit e j other own) lone a = (
+          a.0,
+          λ same.
+              let ne : j ≢ i = (λ eq. lone (both_true (nat_eq e s.controller.epoch) (nat_eq j i) (eq-eqb e s.controller.epoch same) (eq-eqb j i eq))) in
+              let f = a.1 same in (f.0, ap (λ (w : SlotView). w.valid) (view_j j ne) ∙ f.1),
+        )
         still (AdmitAck j own) lone a = let ne : j ≢ i = (λ eq. lone (eq-eqb j i eq)) in (a.0, a.1, ap (λ (w : SlotView). w.valid) (view_j j ne) ∙ a.2)
         still _ lone a = tt
+
         packet : (m : Message) → Among m rest ⊎ Among m (ack ∷ []) → AdmissionIs admitted_state m.packet
         packet m (inl a) = still m.packet (alone m a) (h.admissions.packets m (among_remove m s.bag n a))
         packet m (inr (inl e)) =
             let new : AdmissionIs admitted_state (AdmitAck i tag) = (key, state, ap (λ (w : SlotView). w.valid) view_i) in
             subst (λ (w : Message). AdmissionIs admitted_state w.packet) (sym e) new
         packet m (inr (inr a)) = absurd a
+
         one : (j : ℕ) → count_by (λ (m : Message). is_admission_of j s.controller.epoch m.packet) (rest ++ ack ∷ []) ≡ admission_count (state_at s.controller.slots j)
         one j =
             let first = count_removed (λ (m : Message). is_admission_of j s.controller.epoch m.packet) s.bag n admission at in
             let gone : counted (λ (m : Message). is_admission_of j s.controller.epoch m.packet) admission ≡ counted (λ (m : Message). is_admission_of j s.controller.epoch m.packet) ack =
-              ap (λ b. cond {A = ℕ} (b && nat_eq i j) 1 0) (eq-eqb epoch s.controller.epoch same_epoch) in
+            ap (λ b. cond {A = ℕ} (b && nat_eq i j) 1 0) (eq-eqb epoch s.controller.epoch same_epoch) in
             let more = count_append (λ (m : Message). is_admission_of j s.controller.epoch m.packet) rest (ack ∷ []) in
             let single = count_one (λ (m : Message). is_admission_of j s.controller.epoch m.packet) ack in
             let before = h.admissions.one j in
             omega (arith, first, gone, more, single, before)
+
         once : (own : ℕ) → count_by (λ (m : Message). admits_under own m.packet) (rest ++ ack ∷ []) ≤ 1
         once own =
             let first = count_removed (λ (m : Message). admits_under own m.packet) s.bag n admission at in
@@ -219,37 +239,54 @@ module _ (plan : PlanView) (s : State) (k : Keeps plan s) (h : Seats plan s) (n 
     where
       t : State
       t = switch_turn s rest (Admit epoch i key tag) (dropped s.switch)
+
       message : (m : Message) → Among m rest ⊎ Among m [] → Among m s.bag
       message m (inl a) = among_remove m s.bag n a
       message m (inr a) = absurd a
+
       f : Controls plan [] s t
       f = record {
-        log = refl; notes_are = tt; steps = refl; running = λ e. e; config = refl; counter = omega arith; servers = refl; waits = λ d. refl; left = λ d. refl; tags = omega arith;
+        log = refl;
+        notes_are = tt;
+        steps = refl;
+        running = λ e. e;
+        config = refl;
+        counter = omega arith;
+        servers = refl;
+        waits = λ d. refl;
+        left = λ d. refl;
+        tags = omega arith;
         bag = λ m a. inl (message m (among_append m rest [] a));
       }
 
   dropped_sits : is_slot_there s.switch epoch i ≡ false → Seats plan (switch_turn s rest (Admit epoch i key tag) (dropped s.switch))
   dropped_sits off = seats_last plan s t h (record {
-      running = refl; slots = unchanged_slots s.switch s.switch refl refl refl; epoch = refl; states = refl; tags = omega arith;
-      news = λ m a. inl (message m (among_append m rest [] a));
-      one = λ j.
+    running = refl;
+    slots = unchanged_slots s.switch s.switch refl refl refl;
+    epoch = refl;
+    states = refl;
+    tags = omega arith;
+    news = λ m a. inl (message m (among_append m rest [] a));
+    one = λ j.
         let first = count_removed (λ (m : Message). is_admission_of j s.controller.epoch m.packet) s.bag n admission at in
         let more = count_append (λ (m : Message). is_admission_of j s.controller.epoch m.packet) rest [] in
         let gone : counted (λ (m : Message). is_admission_of j s.controller.epoch m.packet) admission ≡ 0 = ap (λ b. cond {A = ℕ} (b && nat_eq i j) 1 0) (ne_eqb epoch s.controller.epoch other_epoch) in
         let none : count_by (λ (m : Message). is_admission_of j s.controller.epoch m.packet) [] ≡ 0 = refl in
         omega (arith, first, more, gone, none);
-      once = λ own.
+    once = λ own.
         let first = count_removed (λ (m : Message). admits_under own m.packet) s.bag n admission at in
         let more = count_append (λ (m : Message). admits_under own m.packet) rest [] in
         let none : count_by (λ (m : Message). admits_under own m.packet) [] ≡ 0 = refl in
         omega (arith, first, more, none);
-    })
+  })
     where
       t : State
       t = switch_turn s rest (Admit epoch i key tag) (dropped s.switch)
+
       message : (m : Message) → Among m rest ⊎ Among m [] → Among m s.bag
       message m (inl a) = among_remove m s.bag n a
       message m (inr a) = absurd a
+
       other_epoch : epoch ≢ s.controller.epoch
       other_epoch same =
           let state = (its.1 same).0 in
@@ -267,6 +304,7 @@ module _ (plan : PlanView) (s : State) (k : Keeps plan s) (h : Seats plan s) (n 
           × Seats plan (switch_turn s rest (Admit epoch i key tag) (record { view = (admits s.switch i key tag).view; first = if b then None else sent_to Controller (AdmitAck i tag); second = None }))
       taken on true e = absurd (let clash : true ≡ false = sym e ∙ free on in cc)
       taken on false e = (admitted_keeps on, admitted_sits on)
+
       go : (b : Bool) → is_slot_there s.switch epoch i ≡ b → Keeps plan (switch_turn s rest (Admit epoch i key tag) (if b then admits s.switch i key tag else dropped s.switch)) × Seats plan (switch_turn s rest (Admit epoch i key tag) (if b then admits s.switch i key tag else dropped s.switch))
       go true e = taken e (slot_at s.switch i).valid refl
       go false e = (dropped_keeps, dropped_sits e)
@@ -289,7 +327,7 @@ module _ (plan : PlanView) (s : State) (k : Keeps plan s) (h : Seats plan s) (n 
 
   lone : (m : Message) → Among m left_over → is_admission_of i s.controller.epoch m.packet ≡ true → ⊥
   lone m a e = none_left s n answer (λ q. is_admission_of i s.controller.epoch q) at (eq-eqb i i refl)
-    (let one = h.admissions.one i in let is : admission_count (state_at s.controller.slots i) ≡ 1 = ap admission_count its_state.1 in omega (arith, one, is)) m a e
+      (let one = h.admissions.one i in let is : admission_count (state_at s.controller.slots i) ≡ 1 = ap admission_count its_state.1 in omega (arith, one, is)) m a e
 
   now_held : state_at held_state.controller.slots i ≡ Held its_state.0 tag
   now_held = get_or-set_same s.controller.slots i (acked_state (state_at s.controller.slots i)) Free (state_within s.controller.slots i its_state.0 tag its_state.1) ∙ ap acked_state its_state.1
@@ -303,9 +341,19 @@ module _ (plan : PlanView) (s : State) (k : Keeps plan s) (h : Seats plan s) (n 
       message : (m : Message) → Among m left_over ⊎ Among m [] → Among m s.bag
       message m (inl a) = among_remove m s.bag n a
       message m (inr a) = absurd a
+
       f : Controls plan (Admitted i (key_in (state_at s.controller.slots i)) tag ∷ []) s held_state
       f = record {
-        log = refl; notes_are = (tt, tt); steps = refl; running = λ e. e; config = refl; counter = omega arith; servers = refl; waits = λ d. refl; left = λ d. refl; tags = omega arith;
+        log = refl;
+        notes_are = (tt, tt);
+        steps = refl;
+        running = λ e. e;
+        config = refl;
+        counter = omega arith;
+        servers = refl;
+        waits = λ d. refl;
+        left = λ d. refl;
+        tags = omega arith;
         bag = λ m a. inl (message m (among_append m left_over [] a));
       }
 
@@ -318,44 +366,53 @@ module _ (plan : PlanView) (s : State) (k : Keeps plan s) (h : Seats plan s) (n 
 
   held_sits : Seats plan held_state
   held_sits = record {
-      running = h.running;
-      slots = record {
-        epoch = h.slots.epoch; bounds = h.slots.bounds; slots = h.slots.slots;
-        states = length-set s.controller.slots i _ ∙ h.slots.states;
-        fits = λ j. fits j (nat_cases j i);
-        apart = λ a b x y own own' ne g g'. h.slots.apart a b x y own own' ne (given_before a x own (nat_cases a i) g) (given_before b y own' (nat_cases b i) g');
-        drawn = λ j key own g. h.slots.drawn j key own (given_before j key own (nat_cases j i) g);
-        owned = h.slots.owned;
-      };
-      admissions = record {
-        packets = λ m a. packet m (among_append m left_over [] a);
-        one = λ j. one j (nat_cases i j);
-        once = λ own.
+    running = h.running;
+    slots = record {
+      epoch = h.slots.epoch;
+      bounds = h.slots.bounds;
+      slots = h.slots.slots;
+      states = length-set s.controller.slots i _ ∙ h.slots.states;
+      fits = λ j. fits j (nat_cases j i);
+      apart = λ a b x y own own' ne g g'. h.slots.apart a b x y own own' ne (given_before a x own (nat_cases a i) g) (given_before b y own' (nat_cases b i) g');
+      drawn = λ j key own g. h.slots.drawn j key own (given_before j key own (nat_cases j i) g);
+      owned = h.slots.owned;
+    };
+    admissions = record {
+      packets = λ m a. packet m (among_append m left_over [] a);
+      one = λ j. one j (nat_cases i j);
+      once = λ own.
           let first = count_removed (λ (m : Message). admits_under own m.packet) s.bag n answer at in
           let more = count_append (λ (m : Message). admits_under own m.packet) left_over [] in
           let none : count_by (λ (m : Message). admits_under own m.packet) [] ≡ 0 = refl in
           let before = h.admissions.once own in
           omega (arith, first, more, none, before);
-      };
-    }
+    };
+  }
     where
       valid_one : (slot : SlotView) → (slot.valid ≡ false) ⊎ IsSlotOf its_state.0 tag slot → slot.valid ≡ true → IsSlotOf its_state.0 tag slot
       valid_one slot (inl off) on = absurd (let clash : true ≡ false = sym on ∙ off in cc)
       valid_one slot (inr is) on = is
+
       fits : (j : ℕ) → (j ≡ i) ⊎ (j ≢ i) → FitsState (slot_at s.switch j) (state_at held_state.controller.slots j)
       fits j (inl e) =
           let before : FitsState (slot_at s.switch i) (Admitting its_state.0 tag) = subst (FitsState (slot_at s.switch i)) its_state.1 (h.slots.fits i) in
           subst (λ q. FitsState (slot_at s.switch q) (state_at held_state.controller.slots q)) (sym e) (subst (FitsState (slot_at s.switch i)) (sym now_held) (valid_one (slot_at s.switch i) before its_state.2))
       fits j (inr ne) = subst (FitsState (slot_at s.switch j)) (sym (others_held j ne)) (h.slots.fits j)
+
       still : (q : Packet) → (is_admission_of i s.controller.epoch q ≡ true → ⊥) → AdmissionIs s q → AdmissionIs held_state q
-      still (Admit e j other own) none a = (a.0, λ same.
-        let ne : j ≢ i = (λ eq. none (both_true (nat_eq e s.controller.epoch) (nat_eq j i) (eq-eqb e s.controller.epoch same) (eq-eqb j i eq))) in
-        let f = a.1 same in (others_held j ne ∙ f.0, f.1))
+      still (Admit e j other own) none a = (
+        a.0,
+        λ same.
+            let ne : j ≢ i = (λ eq. none (both_true (nat_eq e s.controller.epoch) (nat_eq j i) (eq-eqb e s.controller.epoch same) (eq-eqb j i eq))) in
+            let f = a.1 same in (others_held j ne ∙ f.0, f.1),
+      )
       still (AdmitAck j own) none a = let ne : j ≢ i = (λ eq. none (eq-eqb j i eq)) in (a.0, others_held j ne ∙ a.1, a.2)
       still _ none a = tt
+
       packet : (m : Message) → Among m left_over ⊎ Among m [] → AdmissionIs held_state m.packet
       packet m (inl a) = still m.packet (lone m a) (h.admissions.packets m (among_remove m s.bag n a))
       packet m (inr a) = absurd a
+
       one : (j : ℕ) → (i ≡ j) ⊎ (i ≢ j) → count_by (λ (m : Message). is_admission_of j s.controller.epoch m.packet) (left_over ++ []) ≡ admission_count (state_at held_state.controller.slots j)
       one j (inl e) =
           let first = count_removed (λ (m : Message). is_admission_of j s.controller.epoch m.packet) s.bag n answer at in

@@ -1,6 +1,6 @@
 -- Runs in which no slot is freed and the switch never stops keep the invariants.
-use Rattle.std.proofs.Common.{◌≡◌, ◌≢◌, ℕ, zero, suc, ◌+◌, ◌<◌, ◌≤◌, ◌⊎◌, inl, inr, Bool, true, false, not, cond, List, [], ◌∷◌, ◌++◌, length, replicate, get_or, refl, sym, ap, ◌∙◌, subst, arith, eqb-true}
-use Rattle.std.specs.Prelude.{Option, Some, None, if◌then◌else◌, ◌&&◌, ◌||◌, is_some, slice_get, nat_eq}
+use Rattle.std.proofs.Common.{◌≡◌, ℕ, ◌+◌, Bool, true, false, not, List, [], ◌∷◌, refl, sym, ap, ◌∙◌, subst, arith, eqb-true}
+use Rattle.std.specs.Prelude.{Option, Some, None, if◌then◌else◌, is_some, slice_get, nat_eq}
 use Rattle.std.specs.List.{remove}
 use Rattle.std.proofs.lemmas.Option.{same_Some}
 use Rattle.std.proofs.lemmas.List.{length-replicate}
@@ -10,22 +10,20 @@ use Rattle.far_base.specs.declared.event.Event.{Event}
 use Rattle.far_base.specs.declared.event.Event.TheVariants.{Send, Deliver, Tick, Recover, Restart, Order as OrderOf}
 use Rattle.far_base.specs.declared.packet.Message.{Message}
 use Rattle.far_base.specs.declared.packet.Packet.{Packet}
-use Rattle.far_base.specs.declared.packet.Packet.TheVariants.{GetReq, WriteReq, GetFwd, WriteFwd, GetRep, WriteRep, GetAns, WriteAns, Hot, Admit, AdmitAck, Peek, PeekAns, Remove, RemoveAns, SnapStart, SnapBegun, SnapRead, SnapPart, Store, Stored, Release, Ask, Told, TopAsk, TopIs}
+use Rattle.far_base.specs.declared.packet.Packet.TheVariants.{GetReq, WriteReq, GetFwd, WriteFwd, GetRep, WriteRep, GetAns, WriteAns, Hot, Admit, AdmitAck, SnapStart, SnapBegun, SnapRead, SnapPart, Release}
 use Rattle.far_base.specs.declared.party.Party.{Party}
-use Rattle.far_base.specs.declared.party.Party.TheVariants.{Client, Switch, Server, Controller}
 use Rattle.far_base.specs.declared.plan.Order.{Order}
 use Rattle.far_base.specs.declared.plan.Order.TheVariants.{Admit as AdmitOrder, Evict as EvictOrder, Snap as SnapOrder, Stop as StopOrder}
 use Rattle.far_base.specs.declared.record.Record.{Record}
 use Rattle.far_base.specs.declared.slot_state.SlotState.TheVariants.{Free}
 use Rattle.far_model.specs.Invariants.{FitsState, IsGiven, admission_count}
 use Rattle.far_model.specs.View.{SlotView, slot_at, empty_slot}
-use Rattle.far_model.specs.Controller.{ControllerState, tick, tick_wants, tick_want, tick_free, tick_room, makes_room, wanted, start_snapshot}
-use Rattle.far_model.specs.Events.{happens, keeping_of, is_enabled, handled, reply_at, delivers, can_deliver_some, can_deliver, is_switch, reply_to, all_listed, ticks, does_order, is_order_due, is_order_enabled, controller_turn}
+use Rattle.far_model.specs.Controller.{ControllerState, tick, tick_wants, tick_want, tick_free, tick_room, makes_room, wanted}
+use Rattle.far_model.specs.Events.{happens, keeping_of, is_enabled, handled, reply_at, delivers, can_deliver_some, can_deliver, reply_to, all_listed, ticks, does_order, is_order_due, is_order_enabled, controller_turn}
 use Rattle.far_model.specs.Evictions.{state_at, is_free, has_key, first_place, victim}
 use Rattle.far_model.specs.Flights.{subject, is_operation, OneFlightPerOperation, IsRouted}
 use Rattle.far_model.specs.Lasting.{is_lasting_packet, is_lasting_message, is_lasting_tick, is_lasting_order, is_lasting, IsLasting}
-use Rattle.far_model.specs.Members.{Among}
-use Rattle.far_model.specs.Parties.{Turn, idle, messages_from}
+use Rattle.far_model.specs.Parties.{Turn, idle}
 use Rattle.far_model.specs.Runs.{run, IsRun}
 use Rattle.far_model.specs.State.{State, opening}
 use Rattle.far_model.proofs.Members.{among_at}
@@ -41,8 +39,8 @@ use Rattle.run_laws.proofs.Moves.{moved_sits, send_sits}
 use Rattle.run_laws.proofs.Openings.{opening_keeps}
 use Rattle.run_laws.proofs.Scripts.{send_keeps}
 use Rattle.run_laws.proofs.Slots.{both}
-use Rattle.run_laws.proofs.Seats.{is_admission_packet, Seats}
-use Rattle.run_laws.proofs.Snapshots.{IsCalmTurn, calm_turn, idle_calm, want_dropped_calm, wanted_calm, start_calm, begun_calm, part_calm, snap_start_calm, snap_read_calm, release_calm}
+use Rattle.run_laws.proofs.Seats.{Seats}
+use Rattle.run_laws.proofs.Snapshots.{calm_turn, want_dropped_calm, wanted_calm, start_calm, begun_calm, part_calm, snap_start_calm, snap_read_calm, release_calm}
 
 -- what is carried through such a run
 pub record Lasts (plan : PlanView) (s : State) : Type 0 where
@@ -101,6 +99,7 @@ module _ (plan : PlanView) (s : State) (h : Lasts plan s) where
     where
       TickIs : Option (Turn ControllerState) → Type 0
       TickIs o = o ≡ Some t → Lasts plan (controller_turn s s.bag t)
+
       room : (o : Option ℕ) → tick_room s.controller o ≡ Some t → Lasts plan (controller_turn s s.bag t)
       room None k = absurd cc
       room (Some j) k = started (is_some s.controller.eviction) k
@@ -111,17 +110,21 @@ module _ (plan : PlanView) (s : State) (h : Lasts plan s) where
               let begun : is_some t.state.eviction ≡ true = ap (λ (w : Turn ControllerState). is_some w.state.eviction) (sym (same_Some (makes_room s.controller j) t k)) in
               let lasting : not (is_some t.state.eviction) ≡ true = is in
               absurd (let clash : false ≡ true = sym (ap not begun) ∙ lasting in cc)
+
       free : (key : List ℕ) → first_place (has_key key) s.controller.slots ≡ None → (o : Option ℕ) → first_place is_free s.controller.slots ≡ o → tick_free s.controller key o ≡ Some t → Lasts plan (controller_turn s s.bag t)
       free key new None f k = room (victim s.controller.hand s.controller.slots) k
       free key new (Some j) f k = subst (λ w. Lasts plan (controller_turn s s.bag w)) (same_Some _ t k)
-        (record { keeps = want_keeps plan s h.keeps h.seats key j f new; seats = want_sits plan s h.keeps h.seats key j f new })
+          (record { keeps = want_keeps plan s h.keeps h.seats key j f new; seats = want_sits plan s h.keeps h.seats key j f new })
+
       want : (key : List ℕ) → (o : Option ℕ) → first_place (has_key key) s.controller.slots ≡ o → tick_want s.controller key o ≡ Some t → Lasts plan (controller_turn s s.bag t)
       want key None f k = free key f (first_place is_free s.controller.slots) refl k
       want key (Some j) f k = subst (λ w. Lasts plan (controller_turn s s.bag w)) (same_Some _ t k)
-        (calm_lasts plan _ s _ s.bag _ (rest_all s) (calm_turn s s.bag _ s.done (want_dropped_calm s.controller)) h)
+          (calm_lasts plan _ s _ s.bag _ (rest_all s) (calm_turn s s.bag _ s.done (want_dropped_calm s.controller)) h)
+
       wants : (keys : List (List ℕ)) → tick_wants s.controller keys ≡ Some t → Lasts plan (controller_turn s s.bag t)
       wants [] k = absurd cc
       wants (key ∷ keys) k = want key (first_place (has_key key) s.controller.slots) refl k
+
       in_round : (b : Bool) → (if b then None else tick_wants s.controller s.controller.wants) ≡ Some t → Lasts plan (controller_turn s s.bag t)
       in_round true k = absurd cc
       in_round false k = wants s.controller.wants k
@@ -150,23 +153,27 @@ run_lasts plan s (e ∷ es) h f r l =
 
 opening_sits : (plan : PlanView) → Seats plan (opening plan)
 opening_sits plan = record {
-    running = refl;
-    slots = record {
-      epoch = refl; bounds = length-replicate plan.config.slots None; slots = length-replicate plan.config.slots empty_slot; states = length-replicate plan.config.slots Free;
-      fits = λ i. subst (λ w. FitsState w (state_at (opening plan).controller.slots i)) (sym (slot i)) (subst (FitsState empty_slot) (sym (state i)) refl);
-      apart = λ i j key other tag own ne g g'. absurd (subst (IsGiven key tag) (state i) g);
-      drawn = λ i key tag g. absurd (subst (IsGiven key tag) (state i) g);
-      owned = λ i key valid key_is. absurd (let off = ap (λ (w : SlotView). w.valid) (slot i) in let clash : true ≡ false = sym valid ∙ off in cc);
-    };
-    admissions = record {
-      packets = λ m a. absurd a;
-      one = λ i. sym (ap admission_count (state i));
-      once = λ tag. omega arith;
-    };
-  }
+  running = refl;
+  slots = record {
+    epoch = refl;
+    bounds = length-replicate plan.config.slots None;
+    slots = length-replicate plan.config.slots empty_slot;
+    states = length-replicate plan.config.slots Free;
+    fits = λ i. subst (λ w. FitsState w (state_at (opening plan).controller.slots i)) (sym (slot i)) (subst (FitsState empty_slot) (sym (state i)) refl);
+    apart = λ i j key other tag own ne g g'. absurd (subst (IsGiven key tag) (state i) g);
+    drawn = λ i key tag g. absurd (subst (IsGiven key tag) (state i) g);
+    owned = λ i key valid key_is. absurd (let off = ap (λ (w : SlotView). w.valid) (slot i) in let clash : true ≡ false = sym valid ∙ off in cc);
+  };
+  admissions = record {
+    packets = λ m a. absurd a;
+    one = λ i. sym (ap admission_count (state i));
+    once = λ tag. omega arith;
+  };
+}
   where
     slot : (i : ℕ) → slot_at (opening plan).switch i ≡ empty_slot
     slot i = get_or-replicate_default plan.config.slots i empty_slot
+
     state : (i : ℕ) → state_at (opening plan).controller.slots i ≡ Free
     state i = get_or-replicate_default plan.config.slots i Free
 

@@ -1,23 +1,22 @@
 -- The invariants in the words of the definitions, out of what the induction carries.
-use Rattle.std.proofs.Common.{◌≡◌, ◌≢◌, ℕ, zero, suc, ◌+◌, ◌<◌, ◌≤◌, max, ◌⊎◌, inl, inr, Bool, true, false, cond, List, [], ◌∷◌, refl, sym, ap, ◌∙◌, subst, arith, le_trans, eqb-true}
-use Rattle.std.specs.Prelude.{Option, Some, None, if◌then◌else◌}
+use Rattle.std.proofs.Common.{◌≡◌, ℕ, ◌+◌, ◌<◌, ◌≤◌, ◌⊎◌, inl, inr, Bool, true, false, cond, List, [], ◌∷◌, refl, sym, ap, ◌∙◌, subst, arith, le_trans, eqb-true}
+use Rattle.std.specs.Prelude.{Option, Some, None}
 use Rattle.std.specs.List.{count_by}
 use Rattle.std.proofs.lemmas.List.Sums.{sum_by-cons}
 use Rattle.std.proofs.lemmas.Option.{same_Some}
 use Rattle.far_base.specs.PlanView.{PlanView}
-use Rattle.far_base.specs.declared.log.LogEntry.{LogEntry}
 use Rattle.far_base.specs.declared.log.LogEntry.TheVariants.{Sent, Numbered, Emitted, Answered}
 use Rattle.far_base.specs.declared.log.LogLine.{LogLine}
 use Rattle.far_base.specs.declared.packet.Message.{Message}
 use Rattle.far_base.specs.declared.packet.Packet.{Packet}
-use Rattle.far_base.specs.declared.packet.Packet.TheVariants.{GetReq, WriteReq, GetFwd, WriteFwd, GetRep, WriteRep, GetAns, WriteAns, Hot, Admit, AdmitAck, Peek, PeekAns, Remove, RemoveAns, SnapStart, SnapBegun, SnapRead, SnapPart, Store, Stored, Release, Ask, Told, TopAsk, TopIs}
+use Rattle.far_base.specs.declared.packet.Packet.TheVariants.{GetReq, WriteReq, GetFwd, WriteFwd, GetRep, WriteRep, GetAns, WriteAns}
 use Rattle.far_base.specs.declared.plan.OpLine.{OpLine}
 use Rattle.far_model.specs.Clients.{line_of}
 use Rattle.far_model.specs.Coherent.{Earlier, HasOwnNumber, IsAnswering}
 use Rattle.far_model.specs.Flights.{Subject, OfOperation, subject, is_of_client, flights_of, open_count, OneFlightPerOperation}
-use Rattle.far_model.specs.Invariants.{ShowsAtMost, ShowsAtMostBy, look, entry, reach, reach_by, IsOwnNumber, IsWritten, NumbersDiffer, IsServed, RepliesAreServed, IsAbsorbed, IsForwardOf, IsForwarded, NumbersArrive, SeesFloor, ReadsSeeTheirFloor, CarriesWritten, RecordsAreWritten, HasNoLatest, ServerIsCurrent, LatestIsCurrent, IsTaggedCurrent, TaggedReplyIsCurrent, TellsOf, IsTimely, SendsByPlan, IsAnsweredInFull, ClosedAreAnswered, AnswersAreCurrent, LogIsSound, NumbersAreSound}
+use Rattle.far_model.specs.Invariants.{ShowsAtMost, ShowsAtMostBy, look, entry, IsOwnNumber, NumbersDiffer, IsServed, IsAbsorbed, IsForwardOf, IsForwarded, NumbersArrive, SeesFloor, CarriesWritten, HasNoLatest, ServerIsCurrent, LatestIsCurrent, IsTaggedCurrent, SendsByPlan, IsAnsweredInFull, ClosedAreAnswered, AnswersAreCurrent, LogIsSound, NumbersAreSound}
 use Rattle.far_model.specs.Log.{exposed, is_read}
-use Rattle.far_model.specs.Members.{Among, Each, Pairs}
+use Rattle.far_model.specs.Members.{Among, Pairs}
 use Rattle.far_model.specs.State.{State, client_at, line_at}
 use Rattle.far_model.specs.View.{SlotView}
 use Rattle.far_model.proofs.Members.{pairs_among, each_among, each_from_among}
@@ -121,6 +120,7 @@ module _ (plan : PlanView) (s : State) (k : Keeps plan s) where
     where
       cons : count_by p (x ∷ xs) ≡ cond {A = ℕ} (p x) 1 0 + count_by p xs
       cons = sum_by-cons (λ y. cond {A = ℕ} (p y) 1 0) x xs
+
       go : (0 < count_by p xs → (y : _) × Among y xs × (p y ≡ true)) → (b : Bool) → p x ≡ b → (y : _) × Among y (x ∷ xs) × (p y ≡ true)
       go f true e = (x, inl refl, e)
       go f false e =
@@ -194,6 +194,7 @@ module _ (plan : PlanView) (s : State) (k : Keeps plan s) where
     where
       sent : IsSent plan s.log at op
       sent = ((k.lines _ a).stands).sent
+
       go : IsOpenOrAnswered plan s op → Arrives op num
       go (inl w) =
           let f = flight_of one (line_of plan.ops op).client op w in
@@ -213,7 +214,8 @@ module _ (plan : PlanView) (s : State) (k : Keeps plan s) where
       slots = λ key slot e latest. (k.slots key slot e).written latest;
       packets = λ m a. written m.packet (k.relies m a);
     };
-    server = server_current; latest = latest_current;
+    server = server_current;
+    latest = latest_current;
     tagged = λ m a. tagged m.packet (k.relies m a);
   }
 
@@ -234,7 +236,9 @@ module _ (plan : PlanView) (s : State) (k : Keeps plan s) where
       let h = (k.lines _ a).stands in
       let e = (k.lines _ h.emitted).stands in
       record {
-        answered_at = at; answered = a; emitted = h;
+        answered_at = at;
+        answered = a;
+        emitted = h;
         numbered = λ write. let own = e.own write in (own.own, record { numbered_at = own.numbered_at; numbered = own.numbered; before = le_trans own.before h.before });
       }
 
@@ -243,15 +247,16 @@ module _ (plan : PlanView) (s : State) (k : Keeps plan s) where
     where
       is : line ≡ line_of plan.ops op
       is = (k.lines _ a).stands
+
       go : IsOpenOrAnswered plan s op → IsAnsweredInFull s.log op (is_read line.op)
       go (inl w) = absurd (let e = sym (subst (λ (l : OpLine). (client_at s l.client).waits ≡ None) is idle) ∙ w in cc)
       go (inr h) = subst (λ (l : OpLine). IsAnsweredInFull s.log op (is_read l.op)) (sym is) (in_full h.answered_at op h.answered)
 
   current : AnswersAreCurrent s.log
   current = record {
-      read = λ sent_at at op num line body near a e read. floor sent_at at op num line body near a e read;
-      write = λ numbered_at at op own num body near a e. least numbered_at at op own num body near a e;
-    }
+    read = λ sent_at at op num line body near a e read. floor sent_at at op num line body near a e read;
+    write = λ numbered_at at op own num body near a e. least numbered_at at op own num body near a e;
+  }
     where
       floor : (sent_at at op num : ℕ) (line : OpLine) (body : Option (List ℕ)) (near : Bool) → Among (line_at sent_at (Sent op line)) s.log → Among (line_at at (Emitted op num body near)) s.log → is_read line.op ≡ true → exposed s.log line.key sent_at ≤ num
       floor sent_at at op num line body near a e read =
@@ -261,6 +266,7 @@ module _ (plan : PlanView) (s : State) (k : Keeps plan s) where
           let key : h.key ≡ line.key = sym (ap (λ (w : OpLine). w.key) is ∙ h.on_key) in
           let shown = h.floor (subst (λ (w : OpLine). is_read w.op ≡ true) is read) in
           exposed_most plan s k line.key sent_at num (subst (λ n. ShowsAtMostBy plan s.log line.key n num) same (subst (λ q. ShowsAtMostBy plan s.log q h.sent.sent_at num) key shown))
+
       least : (numbered_at at op own num : ℕ) (body : Option (List ℕ)) (near : Bool) → Among (line_at numbered_at (Numbered op own)) s.log → Among (line_at at (Emitted op num body near)) s.log → own ≤ num
       least numbered_at at op own num body near a e =
           let h = ((k.lines _ e).stands).own ((k.lines _ a).stands).write in
@@ -272,5 +278,7 @@ module _ (plan : PlanView) (s : State) (k : Keeps plan s) where
   log_sound = record {
     coherent = coherent plan s k;
     timely = record { rises = rises s.log k.order; passed = λ l a. (k.lines l a).passed };
-    by_plan = by_plan; closed = closed; current = current;
+    by_plan = by_plan;
+    closed = closed;
+    current = current;
   }

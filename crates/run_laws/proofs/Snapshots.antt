@@ -1,15 +1,11 @@
 -- Hot keys, wants and snapshots: calm steps.
-use Rattle.std.proofs.Common.{◌≡◌, ◌≢◌, ℕ, zero, suc, ◌+◌, ◌<◌, ◌≤◌, ◌⊎◌, inl, inr, Bool, true, false, not, cond, List, [], ◌∷◌, ◌++◌, length, set, refl, sym, ap, ◌∙◌, subst, arith}
-use Rattle.std.specs.Prelude.{Option, Some, None, if◌then◌else◌, ◌&&◌, nat_eq, nat_lt, is_some, slice_set, filter}
-use Rattle.far_base.specs.PlanView.{PlanView}
-use Rattle.far_base.specs.declared.log.LogEntry.{LogEntry}
-use Rattle.far_base.specs.declared.log.LogEntry.TheVariants.{Snapped, SnapItem}
+use Rattle.std.proofs.Common.{◌≡◌, ℕ, zero, suc, inl, inr, true, not, List, [], ◌∷◌, ◌++◌, length, refl, ap, ◌∙◌}
+use Rattle.std.specs.Prelude.{Option, Some, None, ◌&&◌, nat_eq, nat_lt, is_some, slice_set}
 use Rattle.far_base.specs.declared.packet.Message.{Message}
 use Rattle.far_base.specs.declared.packet.Out.{Out}
 use Rattle.far_base.specs.declared.packet.Packet.{Packet}
-use Rattle.far_base.specs.declared.packet.Packet.TheVariants.{Hot, SnapStart, SnapBegun, SnapRead, SnapPart, Release}
-use Rattle.far_base.specs.declared.party.Party.{Party}
-use Rattle.far_base.specs.declared.party.Party.TheVariants.{Client, Switch, Server, Controller}
+use Rattle.far_base.specs.declared.packet.Packet.TheVariants.{SnapStart, SnapRead, Release}
+use Rattle.far_base.specs.declared.party.Party.TheVariants.{Switch, Controller}
 use Rattle.far_base.specs.declared.plan.Config.{Config}
 use Rattle.far_base.specs.declared.record.Record.{Record}
 use Rattle.far_model.specs.Clients.{ClientState, released_to}
@@ -17,13 +13,13 @@ use Rattle.far_model.specs.Controller.{ControllerState, wanted, first_want_dropp
 use Rattle.far_model.specs.Events.{controller_turn, switch_turn, client_turn}
 use Rattle.far_model.specs.Members.{Among, Each}
 use Rattle.far_model.specs.Parties.{Turn, idle, messages_from, to_party}
-use Rattle.far_model.specs.Pass.{Passed, pass, dropped, starts_snapshot, reads_part, with_taken, part_of, sent_to, is_slot_there, passed_out, pass_notes}
-use Rattle.far_model.specs.Snapshots.{Job, SnapshotView, has_begun, has_come, has_part, is_whole, completed, part_reads, view_items, view_records}
+use Rattle.far_model.specs.Pass.{Passed, pass, dropped, starts_snapshot, reads_part, with_taken, part_of, is_slot_there, passed_out, pass_notes}
+use Rattle.far_model.specs.Snapshots.{Job, has_begun, has_come, has_part, is_whole, completed, part_reads, view_items}
 use Rattle.far_model.specs.State.{State, client_at, nobody}
-use Rattle.far_model.specs.View.{SwitchView, is_taken}
+use Rattle.far_model.specs.View.{is_taken}
 use Rattle.far_model.proofs.Members.{among_map_from, each_among}
 use Rattle.flight_laws.proofs.Lists.{by_test, set_field}
-use Rattle.run_laws.proofs.Calm.{is_plain, IsRest, IsCalm}
+use Rattle.run_laws.proofs.Calm.{is_plain, IsCalm}
 use Rattle.run_laws.proofs.Controls.{IsControlNote}
 
 abbrev pub IsPlainOut : Out → Type 0
@@ -43,8 +39,21 @@ pub calm_turn : (s : State) (rest : List Message) (t : Turn ControllerState) (do
 calm_turn s rest t done c = record {
   bag = refl;
   plain = λ m a. let p = among_map_from (λ (o : Out). record { from = Controller; to = o.to; packet = o.packet }) m t.out a in ap (λ (w : Message). is_plain w.packet) p.2 ∙ each_among IsPlainOut p.0 t.out c.plain p.1;
-  log = refl; notes_are = c.notes_are; steps = refl; running = refl; config = refl; switch_epoch = refl; counter = refl; bound = refl; slots = refl; servers = refl;
-  waits = λ d. refl; left = λ d. refl; epoch = c.epoch; states = c.states; tags = c.tags;
+  log = refl;
+  notes_are = c.notes_are;
+  steps = refl;
+  running = refl;
+  config = refl;
+  switch_epoch = refl;
+  counter = refl;
+  bound = refl;
+  slots = refl;
+  servers = refl;
+  waits = λ d. refl;
+  left = λ d. refl;
+  epoch = c.epoch;
+  states = c.states;
+  tags = c.tags;
 }
 
 pub idle_calm : (c : ControllerState) → IsCalmTurn c (idle c)
@@ -95,8 +104,23 @@ IsCalmPass s rest packet p = IsCalm (pass_notes packet p) s (switch_turn s rest 
 
 drop_calm : (s : State) (rest : List Message) → IsCalm [] s (record (Rattle.far_model.specs.State.stepped s (rest ++ []) []) { switch = s.switch }) rest []
 drop_calm s rest = record {
-  bag = refl; plain = λ m a. absurd a; log = refl; notes_are = tt; steps = refl; running = refl; config = refl; switch_epoch = refl; counter = refl; bound = refl; slots = refl; servers = refl;
-  waits = λ d. refl; left = λ d. refl; epoch = refl; states = refl; tags = refl;
+  bag = refl;
+  plain = λ m a. absurd a;
+  log = refl;
+  notes_are = tt;
+  steps = refl;
+  running = refl;
+  config = refl;
+  switch_epoch = refl;
+  counter = refl;
+  bound = refl;
+  slots = refl;
+  servers = refl;
+  waits = λ d. refl;
+  left = λ d. refl;
+  epoch = refl;
+  states = refl;
+  tags = refl;
 }
 
 one_plain : (m : Message) → is_plain m.packet ≡ true → (n : Message) → Among n (m ∷ []) → is_plain n.packet ≡ true
@@ -106,27 +130,70 @@ one_plain m h n (inr a) = absurd a
 pub snap_start_calm : (s : State) (rest : List Message) (epoch id : ℕ) → IsCalmPass s rest (SnapStart epoch id) (pass s.switch (SnapStart epoch id))
 snap_start_calm s rest epoch id = by_test (IsCalmPass s rest (SnapStart epoch id)) (nat_eq epoch s.switch.epoch) (starts_snapshot s.switch id) (dropped s.switch)
     (record {
-      bag = refl; plain = one_plain _ refl; log = refl; notes_are = tt; steps = refl; running = refl; config = refl; switch_epoch = refl; counter = refl; bound = refl; slots = refl; servers = refl;
-      waits = λ d. refl; left = λ d. refl; epoch = refl; states = refl; tags = refl;
+      bag = refl;
+      plain = one_plain _ refl;
+      log = refl;
+      notes_are = tt;
+      steps = refl;
+      running = refl;
+      config = refl;
+      switch_epoch = refl;
+      counter = refl;
+      bound = refl;
+      slots = refl;
+      servers = refl;
+      waits = λ d. refl;
+      left = λ d. refl;
+      epoch = refl;
+      states = refl;
+      tags = refl;
     })
     (drop_calm s rest)
 
 pub snap_read_calm : (s : State) (rest : List Message) (epoch id i : ℕ) → IsCalmPass s rest (SnapRead epoch id i) (pass s.switch (SnapRead epoch id i))
 snap_read_calm s rest epoch id i = by_test (IsCalmPass s rest (SnapRead epoch id i)) (is_slot_there s.switch epoch i) (reads_part s.switch id i) (dropped s.switch)
     (by_test (IsCalmPass s rest (SnapRead epoch id i)) (nat_eq id s.switch.snap && not (is_taken s.switch i)) (record { view = with_taken s.switch i; first = part_of s.switch i; second = None }) (dropped s.switch)
-      (record {
-        bag = refl; plain = one_plain _ refl; log = refl; notes_are = tt; steps = refl; running = refl; config = refl; switch_epoch = refl; counter = refl; bound = refl; slots = refl; servers = refl;
-        waits = λ d. refl; left = λ d. refl; epoch = refl; states = refl; tags = refl;
-      })
-      (drop_calm s rest))
+    (record {
+      bag = refl;
+      plain = one_plain _ refl;
+      log = refl;
+      notes_are = tt;
+      steps = refl;
+      running = refl;
+      config = refl;
+      switch_epoch = refl;
+      counter = refl;
+      bound = refl;
+      slots = refl;
+      servers = refl;
+      waits = λ d. refl;
+      left = λ d. refl;
+      epoch = refl;
+      states = refl;
+      tags = refl;
+    })
+    (drop_calm s rest))
     (drop_calm s rest)
 
 -- ---- a client
 
 pub release_calm : (s : State) (rest : List Message) (c point : ℕ) → IsCalm [] s (client_turn s c rest (record { state = released_to point (client_at s c); out = []; notes = [] })) rest []
 release_calm s rest c point = record {
-  bag = refl; plain = λ m a. absurd a; log = refl; notes_are = tt; steps = refl; running = refl; config = refl; switch_epoch = refl; counter = refl; bound = refl; slots = refl; servers = refl;
+  bag = refl;
+  plain = λ m a. absurd a;
+  log = refl;
+  notes_are = tt;
+  steps = refl;
+  running = refl;
+  config = refl;
+  switch_epoch = refl;
+  counter = refl;
+  bound = refl;
+  slots = refl;
+  servers = refl;
   waits = λ d. set_field (λ (w : ClientState). w.waits) s.clients c (released_to point (client_at s c)) nobody refl d;
   left = λ d. set_field (λ (w : ClientState). w.left) s.clients c (released_to point (client_at s c)) nobody refl d;
-  epoch = refl; states = refl; tags = refl;
+  epoch = refl;
+  states = refl;
+  tags = refl;
 }
