@@ -82,6 +82,26 @@ IsServed plan s _ = Unit {0}
 abbrev pub RepliesAreServed : PlanView → State → Type 0
 RepliesAreServed plan s = (m : Message) → Among m s.bag → IsServed plan s m.packet
 
+-- the switch has taken the write with this number, and its server has not
+pub record IsAbsorbed (log : List LogLine) (op num : ℕ) : Type 0 where
+  pub emitted_at : ℕ
+  pub body : Option (List ℕ)
+  pub emitted : Among (line_at emitted_at (Emitted op num body true)) log
+
+abbrev pub IsForwardOf : ℕ → ℕ → Packet → Type 0
+IsForwardOf op num (WriteFwd caller other key own body) = (other ≡ op) × (own ≡ num)
+IsForwardOf op num _ = ⊥
+
+-- the write is on its way to its server
+pub record IsForwarded (s : State) (op num : ℕ) : Type 0 where
+  pub message : Message
+  pub there : Among message s.bag
+  pub is : IsForwardOf op num message.packet
+
+-- an own number that was not absorbed is at most its server's, or on its way there
+abbrev pub NumbersArrive : PlanView → State → Type 0
+NumbersArrive plan s = (at op num : ℕ) → Among (line_at at (Numbered op num)) s.log → IsAbsorbed s.log op num ⊎ ((num ≤ (look plan s (line_of plan.ops op).key).num) ⊎ IsForwarded s op num)
+
 -- a read that is at its server or comes from there will be answered with at least what was exposed when it was sent
 abbrev pub SeesFloor : PlanView → State → Packet → Type 0
 SeesFloor plan s (GetFwd caller op key tag) = (at : ℕ) → Among (line_at at (Sent op (line_of plan.ops op))) s.log → ShowsAtMostBy plan s.log key at (look plan s key).num
@@ -175,6 +195,7 @@ pub record LogIsSound (plan : PlanView) (s : State) : Type 0 where
 pub record NumbersAreSound (plan : PlanView) (s : State) : Type 0 where
   pub differ : NumbersDiffer s
   pub served : RepliesAreServed plan s
+  pub arrive : NumbersArrive plan s
   pub floors : ReadsSeeTheirFloor plan s
   pub written : RecordsAreWritten plan s
   pub server : ServerIsCurrent plan s

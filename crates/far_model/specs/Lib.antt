@@ -9,6 +9,7 @@ pub mod History
 pub mod Invariants
 pub mod Kept
 pub mod KeyedRecords
+pub mod Lasting
 pub mod Log
 pub mod Members
 pub mod Parties

@@ -1,15 +1,15 @@
 -- A key is bound to a slot.
-use Rattle.std.proofs.Common.{◌≡◌, ◌≢◌, ℕ, zero, suc, ◌<◌, ◌⊎◌, inl, inr, Bool, true, false, List, [], ◌∷◌, length, map, set, get_or, refl, sym, ap, ◌∙◌, subst, arith}
+use Rattle.std.proofs.Common.{◌≡◌, ◌≢◌, ℕ, zero, suc, ◌<◌, Bool, true, false, List, [], ◌∷◌, length, map, set, get_or, refl, sym, ap, ◌∙◌, arith}
 use Rattle.std.specs.Prelude.{Option, Some, None, if◌then◌else◌}
 use Rattle.std.proofs.lemmas.Option.{same_Some}
-use Rattle.std.proofs.lemmas.List.{length-set, get_or-set_same, get_or-set_other}
-use Rattle.far_model.specs.View.{SlotView, SwitchView, slot_at, empty_slot, is_key_there, next_place, bound_place, unbound, bind_key, is_slot_of, entry_if, entry_place}
+use Rattle.std.proofs.lemmas.List.{get_or-set_same, get_or-set_other}
+use Rattle.far_model.specs.View.{SlotView, SwitchView, slot_at, empty_slot, is_key_there, next_place, bound_place, unbound, is_slot_of, entry_if, entry_place}
 use Rattle.far_model.specs.Pass.{admits, admitted}
 use Rattle.far_model.specs.Invariants.{entry, slot_if}
-use Rattle.run_laws.proofs.Slots.{same_key_true, same_key_refl, there_is, bound_there, both, IsEntry, entry_is}
+use Rattle.run_laws.proofs.Slots.{same_key_refl, there_is, bound_there, both, IsEntry, entry_is}
 use Rattle.run_laws.proofs.Stored.{same_key_false}
 
-length-map : {A B : Type 0} (f : A → B) (xs : List A) → length (map f xs) ≡ length xs
+pub length-map : {A B : Type 0} (f : A → B) (xs : List A) → length (map f xs) ≡ length xs
 length-map f [] = refl
 length-map f (x ∷ xs) = ap suc (length-map f xs)
 
@@ -40,6 +40,7 @@ first_off key b bs h = go (is_key_there key b) refl h
     rest : (o : Option ℕ) → bound_place key bs ≡ o → next_place o ≡ None → bound_place key bs ≡ None
     rest None e k = e
     rest (Some j) e k = absurd cc
+
     go : (t : Bool) → is_key_there key b ≡ t → (if t then Some 0 else next_place (bound_place key bs)) ≡ None → (is_key_there key b ≡ false) × (bound_place key bs ≡ None)
     go true e k = absurd cc
     go false e k = (e, rest (bound_place key bs) refl k)
@@ -64,6 +65,7 @@ set_other other key (x ∷ xs) (suc i) j ne h apart = go (λ n k a. set_other ot
     later : ((n : ℕ) → bound_place other xs ≡ Some n → n ≢ i → bound_place other (set xs i (Some key)) ≡ Some n) → (o : Option ℕ) → bound_place other xs ≡ o → next_place o ≡ Some j → next_place (bound_place other (set xs i (Some key))) ≡ Some j
     later f None e k = absurd cc
     later f (Some n) e k = ap next_place (f n e (λ same. apart (sym (same_Some (suc n) j k) ∙ ap suc same))) ∙ k
+
     go : ((n : ℕ) → bound_place other xs ≡ Some n → n ≢ i → bound_place other (set xs i (Some key)) ≡ Some n) → (t : Bool) → is_key_there other x ≡ t
         → (if t then Some 0 else next_place (bound_place other xs)) ≡ Some j → bound_place other (x ∷ set xs i (Some key)) ≡ Some j
     go f true e k = ap (λ t. if t then Some 0 else next_place (bound_place other (set xs i (Some key)))) e ∙ k
@@ -108,13 +110,14 @@ module _ (v : SwitchView) (i : ℕ) (key : List ℕ) (tag : ℕ) (bound_within :
       none (Some j) e f =
           let is : IsEntry other admit_view j = entry_is other admit_view j f in
           let apart : j ≢ i = (λ same. ne (
-            let here : get_or admit_view.bound j None ≡ Some other = bound_there other admit_view.bound j is.bound in
-            let at : get_or admit_view.bound i None ≡ Some key = get_or-set_same (map (unbound key) v.bound) i (Some key) None (let e = length-map (unbound key) v.bound in omega (arith, e, bound_within)) in
-            same_Some other key (sym here ∙ ap (λ n. get_or admit_view.bound n None) same ∙ at))) in
+          let here : get_or admit_view.bound j None ≡ Some other = bound_there other admit_view.bound j is.bound in
+          let at : get_or admit_view.bound i None ≡ Some key = get_or-set_same (map (unbound key) v.bound) i (Some key) None (let e = length-map (unbound key) v.bound in omega (arith, e, bound_within)) in
+          same_Some other key (sym here ∙ ap (λ n. get_or admit_view.bound n None) same ∙ at))) in
           let parts = both (slot_at admit_view j).valid _ is.owned in
           let valid = sym (ap (λ (w : SlotView). w.valid) (view_there j apart)) ∙ parts.0 in
           let key_is = sym (ap (λ (w : SlotView). w.key) (view_there j apart)) ∙ there_is other (slot_at admit_view j).key parts.1 in
           let clash : None ≡ Some j = sym e ∙ owned j valid key_is in absurd cc
+
       go : (o : Option ℕ) → entry_place other v ≡ o → entry other admit_view ≡ slot_if v o
       go None e = none (entry_place other admit_view) e refl
       go (Some j) e = let p = place_stays other j ne e in ap (slot_if admit_view) p.0 ∙ ap Some (view_there j p.1)

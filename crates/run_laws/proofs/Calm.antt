@@ -1,21 +1,19 @@
 -- Steps in which no operation and no admission moves: they leave all as it was.
-use Rattle.std.proofs.Common.{◌≡◌, ◌≢◌, ℕ, zero, suc, ◌+◌, ◌<◌, ◌≤◌, ◌⊎◌, inl, inr, Bool, true, false, cond, List, [], ◌∷◌, ◌++◌, length, refl, sym, ap, ◌∙◌, subst, arith}
-use Rattle.std.specs.Prelude.{Option, Some, None, if◌then◌else◌, nat_eq, slice_get}
+use Rattle.std.proofs.Common.{◌≡◌, ℕ, ◌⊎◌, inl, inr, Bool, true, false, cond, List, ◌++◌, refl, sym, ap, ◌∙◌, subst, arith}
+use Rattle.std.specs.Prelude.{Some, slice_get}
 use Rattle.std.specs.List.{remove, count_by}
 use Rattle.far_base.specs.PlanView.{PlanView}
 use Rattle.far_base.specs.declared.log.LogEntry.{LogEntry}
 use Rattle.far_base.specs.declared.packet.Message.{Message}
 use Rattle.far_base.specs.declared.packet.Packet.{Packet}
-use Rattle.far_base.specs.declared.packet.Packet.TheVariants.{GetReq, WriteReq, GetFwd, WriteFwd, GetRep, WriteRep, GetAns, WriteAns, Hot, Admit, AdmitAck, Peek, PeekAns, Remove, RemoveAns, SnapStart, SnapBegun, SnapRead, SnapPart, Store, Stored, Release, Ask, Told, TopAsk, TopIs}
-use Rattle.far_model.specs.Clients.{line_of}
+use Rattle.far_base.specs.declared.packet.Packet.TheVariants.{GetReq, WriteReq, GetFwd, WriteFwd, GetRep, WriteRep, GetAns, WriteAns, Hot, Admit, AdmitAck, SnapStart, SnapBegun, SnapRead, SnapPart, Release, Ask, Told, TopAsk, TopIs}
 use Rattle.far_model.specs.Invariants.{entry}
 use Rattle.far_model.specs.Members.{Among, Each}
 use Rattle.far_model.specs.State.{State, client_at, now, noted}
-use Rattle.far_model.specs.View.{SlotView, SwitchView}
 use Rattle.far_model.proofs.Members.{among_append, among_remove}
 use Rattle.run_laws.proofs.Controls.{IsControlNote, Controls, slot_stays, controls_keep}
 use Rattle.run_laws.proofs.Keeps.{AdmitsOther, IsDrawn, Relies, Keeps}
-use Rattle.run_laws.proofs.Seats.{counted, count_removed, count_append, count_none, is_admission_packet, no_admission_of, admits_no_tag, Seats, SameBag, same_seats, unchanged_slots, seats_last}
+use Rattle.run_laws.proofs.Seats.{counted, count_removed, count_append, count_none, is_admission_packet, Seats, same_seats, unchanged_slots, seats_last}
 
 -- a packet of snapshots, of recovery, or of a hot key
 abbrev pub is_plain : Packet → Bool
@@ -63,9 +61,9 @@ pub rest_taken : (s : State) (i : ℕ) (m : Message) → slice_get s.bag i ≡ S
 rest_taken s i m at off = record {
   among = λ n a. among_remove n s.bag i a;
   count = λ p none.
-    let first = count_removed (λ (m : Message). p m.packet) s.bag i m at in
-    let gone : counted (λ (m : Message). p m.packet) m ≡ 0 = ap (λ b. cond {A = ℕ} b 1 0) (none m.packet off) in
-    omega (arith, first, gone);
+      let first = count_removed (λ (m : Message). p m.packet) s.bag i m at in
+      let gone : counted (λ (m : Message). p m.packet) m ≡ 0 = ap (λ b. cond {A = ℕ} b 1 0) (none m.packet off) in
+      omega (arith, first, gone);
 }
 
 pub record IsCalm (notes : List LogEntry) (s t : State) (rest new : List Message) : Type 0 where
@@ -97,22 +95,31 @@ module _ (plan : PlanView) (notes : List LogEntry) (s t : State) (rest new : Lis
       message : (m : Message) → Among m rest ⊎ Among m new → Among m s.bag ⊎ (Relies plan t m.packet × ((tag : ℕ) → IsDrawn s tag → AdmitsOther tag m.packet))
       message m (inl a) = inl (r.among m a)
       message m (inr a) = inr (plain_relies plan t m.packet (c.plain m a), λ tag d. plain_admits m.packet tag (c.plain m a))
+
       f : Controls plan notes s t
       f = record {
-        log = c.log; notes_are = c.notes_are; steps = c.steps; running = λ e. sym c.running ∙ e; config = c.config;
-        counter = let e = c.counter in omega (arith, e); servers = c.servers; waits = c.waits; left = c.left; tags = let e = c.tags in omega (arith, e);
+        log = c.log;
+        notes_are = c.notes_are;
+        steps = c.steps;
+        running = λ e. sym c.running ∙ e;
+        config = c.config;
+        counter = let e = c.counter in omega (arith, e);
+        servers = c.servers;
+        waits = c.waits;
+        left = c.left;
+        tags = let e = c.tags in omega (arith, e);
         bag = λ m a. message m (among_append m rest new (subst (λ w. Among m w) c.bag a));
       }
 
   pub calm_seats : Seats plan s → Seats plan t
   calm_seats h = seats_last plan s t h (same_seats s t c.running (unchanged_slots s.switch t.switch c.bound c.switch_epoch c.slots) c.epoch c.states (let e = c.tags in omega (arith, e)) (record {
-      news = λ m a. news m (among_append m rest new (subst (λ w. Among m w) c.bag a));
-      count = λ p none.
+    news = λ m a. news m (among_append m rest new (subst (λ w. Among m w) c.bag a));
+    count = λ p none.
         let more = count_append (λ (m : Message). p m.packet) rest new in
         let nothing = count_none (λ (m : Message). p m.packet) new (λ n a. none n.packet (plain_none n.packet (c.plain n a))) in
         let kept = r.count p none in
         ap (λ l. count_by (λ (m : Message). p m.packet) l) c.bag ∙ omega (arith, more, nothing, kept);
-    }))
+  }))
     where
       news : (m : Message) → Among m rest ⊎ Among m new → Among m s.bag ⊎ (is_admission_packet m.packet ≡ false)
       news m (inl a) = inl (r.among m a)

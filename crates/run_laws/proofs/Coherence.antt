@@ -1,19 +1,19 @@
 -- What the invariants say of the log: it is coherent.
-use Rattle.std.proofs.Common.{◌≡◌, ◌≢◌, ℕ, zero, suc, ◌+◌, ◌<◌, ◌≤◌, max, ◌⊎◌, inl, inr, Bool, true, false, List, [], ◌∷◌, refl, sym, ap, ◌∙◌, subst, arith, le_trans, leb-true, eqb-true}
+use Rattle.std.proofs.Common.{◌≡◌, ℕ, ◌≤◌, inl, inr, Bool, true, false, List, [], ◌∷◌, refl, sym, ap, ◌∙◌, subst, arith, leb-true, eqb-true}
 use Rattle.std.specs.Prelude.{Option, Some, None, if◌then◌else◌, ◌==◌, nat_le}
 use Rattle.std.proofs.lemmas.Option.{same_Some}
 use Rattle.far_base.specs.PlanView.{PlanView}
 use Rattle.far_base.specs.declared.log.LogEntry.{LogEntry}
-use Rattle.far_base.specs.declared.log.LogEntry.TheVariants.{Sent, Numbered, Emitted, Answered, Admitted, Evicted, Kept, Snapped, SnapItem, Stopped, Recovered, RecItem}
+use Rattle.far_base.specs.declared.log.LogEntry.TheVariants.{Sent, Numbered, Emitted, Answered}
 use Rattle.far_base.specs.declared.log.LogLine.{LogLine}
 use Rattle.far_base.specs.declared.plan.OpLine.{OpLine}
 use Rattle.far_model.specs.Clients.{line_of}
-use Rattle.far_model.specs.Coherent.{Stands, IsCoherent, WasSent, WasWritten, IsEmission}
+use Rattle.far_model.specs.Coherent.{Stands, IsCoherent, WasWritten, IsEmission}
 use Rattle.far_model.specs.Invariants.{ShowsAtMostBy, IsNumberOf}
-use Rattle.far_model.specs.Log.{At, is_read, first_told, or_later, sent_by, sending, sent_on, is_on, number_shown, greatest_shown, exposed}
+use Rattle.far_model.specs.Log.{At, first_told, or_later, sent_by, sending, sent_on, is_on, number_shown, greatest_shown, exposed}
 use Rattle.far_model.specs.Members.{Among}
 use Rattle.far_model.specs.State.{State, line_at}
-use Rattle.run_laws.proofs.Keeps.{LineStands, LineIs, AnswerStands, Keeps}
+use Rattle.run_laws.proofs.Keeps.{LineStands, AnswerStands, Keeps}
 use Rattle.run_laws.proofs.Slots.{same_key_true}
 
 -- ---- what is exposed is what the lines show
@@ -84,13 +84,20 @@ was_written : (plan : PlanView) (s : State) → Keeps plan s → (moment : ℕ) 
 was_written plan s k moment key num body h =
     let stands = (k.lines _ h.own.numbered).stands in
     record {
-      op = h.op; numbered_at = h.own.numbered_at; numbered = h.own.numbered; before = h.own.before;
-      sent_at = stands.sent.sent_at; line = line_of plan.ops h.op; sent = stands.sent.sent;
-      write = stands.write; on_key = h.on_key; same_body = h.same_body;
+      op = h.op;
+      numbered_at = h.own.numbered_at;
+      numbered = h.own.numbered;
+      before = h.own.before;
+      sent_at = stands.sent.sent_at;
+      line = line_of plan.ops h.op;
+      sent = stands.sent.sent;
+      write = stands.write;
+      on_key = h.on_key;
+      same_body = h.same_body;
     }
 
-emission : (plan : PlanView) (s : State) → Keeps plan s → (moment op num : ℕ) (body : Option (List ℕ)) → AnswerStands plan s moment op num body → IsEmission s.log moment op num body
-emission plan s k moment op num body h = record {
+emission : (plan : PlanView) (s : State) → Keeps plan s → (moment op num : ℕ) (body : Option (List ℕ)) (near : Bool) → AnswerStands plan s moment op num body near → IsEmission s.log moment op num body
+emission plan s k moment op num body near h = record {
   sent = record { sent_at = h.sent.sent_at; line = line_of plan.ops op; sent = h.sent.sent; before = h.sent.before };
   source = λ above. (h.written, subst (λ key. WasWritten s.log moment key num h.written) (sym h.on_key) (was_written plan s k moment h.key num h.written (h.source.some above)), h.same);
   unwritten = λ read zero. h.same read ∙ h.source.none zero;
@@ -101,9 +108,10 @@ emission plan s k moment op num body h = record {
 stands : (plan : PlanView) (s : State) → Keeps plan s → (moment : ℕ) (entry : LogEntry) → LineStands plan s moment entry → Stands s.log moment entry
 stands plan s k moment (Numbered op num) h = record {
   sent = record { sent_at = h.sent.sent_at; line = line_of plan.ops op; sent = h.sent.sent; before = h.sent.before };
-  write = h.write; above = h.above;
+  write = h.write;
+  above = h.above;
 }
-stands plan s k moment (Emitted op num body near) h = emission plan s k moment op num body h
+stands plan s k moment (Emitted op num body near) h = emission plan s k moment op num body near h
 stands plan s k moment (Answered op) h = h
 stands plan s k moment _ h = tt
 

@@ -1,19 +1,19 @@
 -- Steps that touch no operation: they keep everything where slots, servers and clients have what they had.
-use Rattle.std.proofs.Common.{◌≡◌, ◌≢◌, ℕ, zero, suc, ◌+◌, ◌<◌, ◌≤◌, max, ◌⊎◌, inl, inr, Bool, true, false, List, [], ◌∷◌, ◌++◌, length, refl, sym, ap, ◌∙◌, subst, arith, le_trans}
-use Rattle.std.specs.Prelude.{Option, Some, None}
+use Rattle.std.proofs.Common.{◌≡◌, ℕ, ◌≤◌, max, ◌⊎◌, inl, inr, true, false, List, [], ◌∷◌, length, sym, ap, ◌∙◌, subst, arith}
+use Rattle.std.specs.Prelude.{Some}
 use Rattle.far_base.specs.PlanView.{PlanView}
 use Rattle.far_base.specs.declared.log.LogEntry.{LogEntry}
-use Rattle.far_base.specs.declared.log.LogEntry.TheVariants.{Sent, Numbered, Emitted, Answered, Admitted, Evicted, Kept, Snapped, SnapItem, Stopped, Recovered, RecItem}
+use Rattle.far_base.specs.declared.log.LogEntry.TheVariants.{Sent, Numbered, Emitted, Answered}
 use Rattle.far_base.specs.declared.packet.Message.{Message}
 use Rattle.far_model.specs.Clients.{line_of}
 use Rattle.far_model.specs.Coherent.{Rises}
 use Rattle.far_model.specs.History.{Held}
-use Rattle.far_model.specs.Invariants.{ShowsAtMost, look, entry, reach, reach_by, IsWritten, WouldBeCurrent}
+use Rattle.far_model.specs.Invariants.{ShowsAtMost, look, entry, reach, reach_by, IsWritten}
 use Rattle.far_model.specs.Members.{Among, Each, Pairs}
-use Rattle.far_model.specs.State.{State, client_at, line_at, now, noted}
+use Rattle.far_model.specs.State.{State, client_at, now, noted}
 use Rattle.far_model.specs.View.{SlotView}
-use Rattle.run_laws.proofs.Frame.{AboutMine, NotOn, off_shows_each, member, shown_lasts, shown_within, Grows, written_lasts, left_lasts, IsFresh}
-use Rattle.run_laws.proofs.Keeps.{SendsOp, AdmitsOther, IsDrawn, LineStands, Relies, LeftIs, WasAnswered, IsOpenOrAnswered, Keeps}
+use Rattle.run_laws.proofs.Frame.{AboutMine, NotOn, off_shows_each, member, shown_lasts, shown_within, Grows, written_lasts, left_lasts}
+use Rattle.run_laws.proofs.Keeps.{AdmitsOther, IsDrawn, Relies, IsOpenOrAnswered, Keeps}
 use Rattle.run_laws.proofs.Step.{IsOther, NoteIs, IsNoSending, sent_before, next}
 
 -- an entry that is of no operation
@@ -111,37 +111,47 @@ slot_stays plan notes s t k c key same = record {
 pub controls_keep : (plan : PlanView) (notes : List LogEntry) (s t : State) → Keeps plan s → Controls plan notes s t → ((key : List ℕ) → SlotSettles plan s t key) → Keeps plan t
 controls_keep plan notes s t k c settles =
     next plan Nobody notes s t k g (each_to IsControlNote (NoteIs plan Nobody s t) notes (note_is plan s t) c.notes_are) (notes_rise notes c.notes_are)
-      (λ m a. message m (c.bag m a)) (record {
-        servers = ap length c.servers ∙ k.servers; config = c.config ∙ k.config;
-        records = λ key. subst (λ (w : Held). IsWritten plan t.log t.steps key w.num w.body) (sym (looks key)) (written_lasts plan Nobody notes s t g s.steps t.steps key _ _ (let e = c.steps in omega (arith, e)) (k.records key));
-        left = λ d. left_lasts plan Nobody notes s t g d (c.left d) (λ o a n. n) (k.left d);
-        open_or_answered = λ at o h. waits_on o (k.open_or_answered at o (sent_before plan s t notes c.log (each_to IsControlNote IsNoSending notes note_sends c.notes_are) at o h));
-        covers = λ runs key. covers key (k.covers (c.running runs) key);
-        slots = λ key slot is. record {
-          drawn = (settles key).drawn slot is;
-          written = λ latest. written_lasts plan Nobody notes s t g s.steps t.steps key _ _ (let e = c.steps in omega (arith, e)) ((k.slots key slot ((settles key).written slot is latest)).written latest);
-        };
-      })
+    (λ m a. message m (c.bag m a)) (record {
+      servers = ap length c.servers ∙ k.servers;
+      config = c.config ∙ k.config;
+      records = λ key. subst (λ (w : Held). IsWritten plan t.log t.steps key w.num w.body) (sym (looks key)) (written_lasts plan Nobody notes s t g s.steps t.steps key _ _ (let e = c.steps in omega (arith, e)) (k.records key));
+      left = λ d. left_lasts plan Nobody notes s t g d (c.left d) (λ o a n. n) (k.left d);
+      open_or_answered = λ at o h. waits_on o (k.open_or_answered at o (sent_before plan s t notes c.log (each_to IsControlNote IsNoSending notes note_sends c.notes_are) at o h));
+      covers = λ runs key. covers key (k.covers (c.running runs) key);
+      slots = λ key slot is. record {
+        drawn = (settles key).drawn slot is;
+        written = λ latest. written_lasts plan Nobody notes s t g s.steps t.steps key _ _ (let e = c.steps in omega (arith, e)) ((k.slots key slot ((settles key).written slot is latest)).written latest);
+      };
+    })
   where
     looks : (key : List ℕ) → look plan t key ≡ look plan s key
     looks key = ap (λ servers. look plan (record s { servers = servers }) key) c.servers
+
     off : (key : List ℕ) → Each (NotOn plan key) notes
     off key = each_to IsControlNote (NotOn plan key) notes (note_off plan key) c.notes_are
+
     g : Grows plan Nobody notes s t
     g = record {
-      log = c.log; about = each_to IsControlNote (AboutMine Nobody) notes note_about c.notes_are; steps = c.steps; running = c.running; counter = c.counter;
+      log = c.log;
+      about = each_to IsControlNote (AboutMine Nobody) notes note_about c.notes_are;
+      steps = c.steps;
+      running = c.running;
+      counter = c.counter;
       more = λ key. subst (λ (w : Held). (look plan s key).num ≤ w.num) (sym (looks key)) (omega arith);
       drawn = drawn_on plan notes s t c;
       current = λ key tag n m d h b slot is old under. shown_within plan t.log key (max n slot.num) (max m slot.num)
-        (shown_lasts s t notes c.log plan key (max n slot.num) (h slot ((settles key).current tag slot d is old under) old under) (off_shows_each plan key (max n slot.num) notes (off key))) (omega (arith, b));
+          (shown_lasts s t notes c.log plan key (max n slot.num) (h slot ((settles key).current tag slot d is old under) old under) (off_shows_each plan key (max n slot.num) notes (off key))) (omega (arith, b));
     }
+
     message : (m : Message) → Among m s.bag ⊎ (Relies plan t m.packet × ((tag : ℕ) → IsDrawn s tag → AdmitsOther tag m.packet)) → (Among m s.bag × IsOther Nobody m.packet) ⊎ Relies plan t m.packet
     message m (inl a) = inl (a, λ caller op e n. n)
     message m (inr n) = inr n.0
+
     covers : (key : List ℕ) → ShowsAtMost plan s.log key (reach plan s key) → ShowsAtMost plan t.log key (reach plan t key)
     covers key h =
         let same : reach plan t key ≡ reach plan s key = (settles key).reach (look plan t key).num ∙ ap (λ (w : Held). reach_by w.num (entry key s.switch)) (looks key) in
         subst (λ n. ShowsAtMost plan t.log key n) (sym same) (shown_lasts s t notes c.log plan key (reach plan s key) h (off_shows_each plan key (reach plan s key) notes (off key)))
+
     waits_on : (o : ℕ) → IsOpenOrAnswered plan s o → IsOpenOrAnswered plan t o
     waits_on o (inl w) = inl (c.waits (line_of plan.ops o).client ∙ w)
     waits_on o (inr h) = inr (record { answered_at = h.answered_at; answered = member s t notes c.log _ h.answered })

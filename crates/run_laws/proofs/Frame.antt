@@ -1,23 +1,20 @@
 -- What one step leaves as it was for all that is not its own.
-use Rattle.std.proofs.Common.{◌≡◌, ◌≢◌, ℕ, ◌<◌, ◌≤◌, max, ◌⊎◌, inl, inr, Bool, true, false, List, [], ◌∷◌, ◌++◌, map, length, refl, sym, ap, ◌∙◌, subst, arith, le_trans}
-use Rattle.std.specs.Prelude.{Option, Some, None}
+use Rattle.std.proofs.Common.{◌≡◌, ◌≢◌, ℕ, ◌<◌, ◌≤◌, ◌⊎◌, inl, inr, Bool, true, List, [], ◌∷◌, map, refl, sym, ap, subst, arith, le_trans}
+use Rattle.std.specs.Prelude.{Option}
 use Rattle.far_base.specs.PlanView.{PlanView}
 use Rattle.far_base.specs.declared.log.LogEntry.{LogEntry}
-use Rattle.far_base.specs.declared.log.LogEntry.TheVariants.{Sent, Numbered, Emitted, Answered, Admitted, Evicted, Kept, Snapped, SnapItem, Stopped, Recovered, RecItem}
+use Rattle.far_base.specs.declared.log.LogEntry.TheVariants.{Sent, Numbered, Emitted, Answered}
 use Rattle.far_base.specs.declared.log.LogLine.{LogLine}
-use Rattle.far_base.specs.declared.packet.Message.{Message}
 use Rattle.far_base.specs.declared.packet.Packet.{Packet}
-use Rattle.far_base.specs.declared.packet.Packet.TheVariants.{GetReq, WriteReq, GetFwd, WriteFwd, GetRep, WriteRep, GetAns, WriteAns, Hot, Admit, AdmitAck, Peek, PeekAns, Remove, RemoveAns, SnapStart, SnapBegun, SnapRead, SnapPart, Store, Stored, Release, Ask, Told, TopAsk, TopIs}
+use Rattle.far_base.specs.declared.packet.Packet.TheVariants.{GetReq, WriteReq, GetFwd, WriteFwd, GetRep, WriteRep, GetAns, WriteAns}
 use Rattle.far_model.specs.Clients.{line_of}
 use Rattle.far_model.specs.Coherent.{Rises, Earlier, HasOwnNumber, IsAnswering}
 use Rattle.far_model.specs.Flights.{subject, OfOperation}
-use Rattle.far_model.specs.Invariants.{TellsOf, ShowsAtMostBy, ShowsAtMost, look, entry, reach, IsOwnNumber, IsNumberOf, IsWritten, WouldBeCurrent}
-use Rattle.far_model.specs.Log.{is_read}
+use Rattle.far_model.specs.Invariants.{TellsOf, ShowsAtMostBy, ShowsAtMost, look, entry, IsOwnNumber, IsWritten, WouldBeCurrent}
 use Rattle.far_model.specs.Members.{Among, Each, Pairs}
 use Rattle.far_model.specs.State.{State, client_at, line_at, now, noted}
-use Rattle.far_model.proofs.Members.{among_append_left, among_append_right, among_append, among_map, among_map_from, each_among, each_from_among, pairs_append, pairs_map}
-use Rattle.far_model.specs.View.{SlotView}
-use Rattle.run_laws.proofs.Keeps.{SendsOp, NumbersOp, EmitsOp, AnswersOp, Absent, IsSent, NumberStands, AnswerStands, LineStands, LineIs, IsDrawn, IsTagged, ServesOp, ReadIsAsked, WriteIsAsked, ReadIsForwarded, WriteIsForwarded, ReadIsReplied, WriteIsReplied, IsBeingAnswered, Relies, LeftIs, SlotIs, WasAnswered, IsOpenOrAnswered, Keeps}
+use Rattle.far_model.proofs.Members.{among_append_left, among_append_right, among_append, among_map, among_map_from, each_among, pairs_append, pairs_map}
+use Rattle.run_laws.proofs.Keeps.{SendsOp, NumbersOp, EmitsOp, AnswersOp, Absent, IsSent, LineStands, LineIs, IsDrawn, IsTagged, ServesOp, Relies, LeftIs, Keeps}
 
 pub sends_names : (op : ℕ) (e : LogEntry) → SendsOp op e → TellsOf op e
 sends_names op (Sent other line) h = h
@@ -156,19 +153,29 @@ module _ (plan : PlanView) (Mine : ℕ → Type 0) (notes : List LogEntry) (s t 
   pub past : s.steps ≤ t.steps
   past = let e = g.steps in omega arith
 
+  stored_lasts : (moment op num : ℕ) (near : Bool) (key : List ℕ) → ((near ≡ true) × IsOwnNumber s.log moment op num) ⊎ (num ≤ (look plan s key).num) → ((near ≡ true) × IsOwnNumber t.log moment op num) ⊎ (num ≤ (look plan t key).num)
+  stored_lasts moment op num near key (inl p) = inl (p.0, own_lasts moment moment op num (omega arith) p.1)
+  stored_lasts moment op num near key (inr b) = inr (le_trans b (g.more key))
+
   -- a line stands as it stood
   line_lasts : (moment : ℕ) (entry : LogEntry) → moment ≤ s.steps → LineStands plan s moment entry → LineStands plan t moment entry
   line_lasts moment (Sent op line) b h = h
   line_lasts moment (Numbered op num) b h = record {
-    sent = sent_lasts moment op h.sent; write = h.write; above = h.above;
+    sent = sent_lasts moment op h.sent;
+    write = h.write;
+    above = h.above;
     counted = λ runs. le_trans (h.counted (g.running runs)) g.counter;
   }
   line_lasts moment (Emitted op num body near) b h = record {
-    sent = sent_lasts moment op h.sent; key = h.key; on_key = h.on_key; written = h.written;
+    sent = sent_lasts moment op h.sent;
+    key = h.key;
+    on_key = h.on_key;
+    written = h.written;
     source = written_lasts moment moment h.key num h.written (omega arith) h.source;
     same = h.same;
     floor = λ read. shown_by_lasts s t notes g.log plan h.key h.sent.sent_at num (le_trans h.sent.before b) (h.floor read);
     own = λ write. has_own_lasts moment moment op num (omega arith) (h.own write);
+    stored = λ write. stored_lasts moment op num near h.key (h.stored write);
   }
   line_lasts moment (Answered op) b h = answering_lasts moment moment op (omega arith) h
   line_lasts moment _ b h = tt
@@ -182,7 +189,9 @@ module _ (plan : PlanView) (Mine : ℕ → Type 0) (notes : List LogEntry) (s t 
   abbrev pub serves_lasts : (caller op : ℕ) (key : List ℕ) → Absent (AnswersOp op) t.log → ServesOp plan s caller op key → ServesOp plan t caller op key
   serves_lasts caller op key unanswered h = record {
     sent = record { sent_at = h.sent.sent_at; sent = still _ h.sent.sent; before = le_trans h.sent.before past };
-    on_key = h.on_key; by_client = h.by_client; unanswered = unanswered;
+    on_key = h.on_key;
+    by_client = h.by_client;
+    unanswered = unanswered;
   }
 
   pub tagged_lasts : (key : List ℕ) (tag n m : ℕ) → n ≤ m → IsTagged plan s key tag n → IsTagged plan t key tag m
@@ -193,27 +202,35 @@ module _ (plan : PlanView) (Mine : ℕ → Type 0) (notes : List LogEntry) (s t 
 
   pub relies_lasts : (p : Packet) → ((caller op : ℕ) → subject p ≡ OfOperation caller op → Mine op → ⊥) → Relies plan s p → Relies plan t p
   relies_lasts (GetReq caller op key) o h = record {
-    serves = others caller op key (o caller op refl) h.serves; read = h.read;
+    serves = others caller op key (o caller op refl) h.serves;
+    read = h.read;
     unemitted = not_mine EmitsOp emits_names op (o caller op refl) h.unemitted;
   }
   relies_lasts (WriteReq caller op key body) o h = record {
-    serves = others caller op key (o caller op refl) h.serves; write = h.write; same_body = h.same_body;
+    serves = others caller op key (o caller op refl) h.serves;
+    write = h.write;
+    same_body = h.same_body;
     unnumbered = not_mine NumbersOp numbers_names op (o caller op refl) h.unnumbered;
     unemitted = not_mine EmitsOp emits_names op (o caller op refl) h.unemitted;
   }
   relies_lasts (GetFwd caller op key tag) o h = record {
-    serves = others caller op key (o caller op refl) h.serves; read = h.read;
+    serves = others caller op key (o caller op refl) h.serves;
+    read = h.read;
     unemitted = not_mine EmitsOp emits_names op (o caller op refl) h.unemitted;
     floor = shown_by_within plan t.log key h.serves.sent.sent_at _ _ (shown_by_lasts s t notes g.log plan key h.serves.sent.sent_at _ h.serves.sent.before h.floor) (g.more key);
     tagged = tagged_lasts key tag _ _ (g.more key) h.tagged;
   }
   relies_lasts (WriteFwd caller op key num body) o h = record {
-    serves = others caller op key (o caller op refl) h.serves; write = h.write; same_body = h.same_body;
-    own = own_lasts s.steps t.steps op num past h.own; above = h.above;
+    serves = others caller op key (o caller op refl) h.serves;
+    write = h.write;
+    same_body = h.same_body;
+    own = own_lasts s.steps t.steps op num past h.own;
+    above = h.above;
     unemitted = not_mine EmitsOp emits_names op (o caller op refl) h.unemitted;
   }
   relies_lasts (GetRep caller op key tag num body) o h = record {
-    serves = others caller op key (o caller op refl) h.serves; read = h.read;
+    serves = others caller op key (o caller op refl) h.serves;
+    read = h.read;
     unemitted = not_mine EmitsOp emits_names op (o caller op refl) h.unemitted;
     floor = shown_by_lasts s t notes g.log plan key h.serves.sent.sent_at num h.serves.sent.before h.floor;
     known = le_trans h.known (g.more key);
@@ -221,17 +238,20 @@ module _ (plan : PlanView) (Mine : ℕ → Type 0) (notes : List LogEntry) (s t 
     tagged = tagged_lasts key tag num num (omega arith) h.tagged;
   }
   relies_lasts (WriteRep caller op key num body) o h = record {
-    serves = others caller op key (o caller op refl) h.serves; write = h.write;
+    serves = others caller op key (o caller op refl) h.serves;
+    write = h.write;
     unemitted = not_mine EmitsOp emits_names op (o caller op refl) h.unemitted;
     own = has_own_lasts s.steps t.steps op num past h.own;
     known = le_trans h.known (g.more key);
     written = written_lasts s.steps t.steps key num body past h.written;
   }
   relies_lasts (GetAns caller op key num body near) o h = record {
-    serves = others caller op key (o caller op refl) h.serves; emitted = answering_lasts s.steps t.steps op past h.emitted;
+    serves = others caller op key (o caller op refl) h.serves;
+    emitted = answering_lasts s.steps t.steps op past h.emitted;
   }
   relies_lasts (WriteAns caller op key num kept) o h = record {
-    serves = others caller op key (o caller op refl) h.serves; emitted = answering_lasts s.steps t.steps op past h.emitted;
+    serves = others caller op key (o caller op refl) h.serves;
+    emitted = answering_lasts s.steps t.steps op past h.emitted;
   }
   relies_lasts _ o h = tt
 

@@ -1,23 +1,20 @@
 -- What the induction over a run carries from state to state.
-use Rattle.std.proofs.Common.{◌≡◌, ◌≢◌, ℕ, ◌<◌, ◌≤◌, max, ◌⊎◌, Bool, true, false, List, [], ◌∷◌, length}
-use Rattle.std.specs.Prelude.{Option, Some, None}
+use Rattle.std.proofs.Common.{◌≡◌, ◌≢◌, ℕ, ◌<◌, ◌≤◌, ◌⊎◌, Bool, true, false, List, length}
+use Rattle.std.specs.Prelude.{Option, Some}
 use Rattle.far_base.specs.PlanView.{PlanView}
 use Rattle.far_base.specs.declared.log.LogEntry.{LogEntry}
-use Rattle.far_base.specs.declared.log.LogEntry.TheVariants.{Sent, Numbered, Emitted, Answered, Admitted, Evicted, Kept, Snapped, SnapItem, Stopped, Recovered, RecItem}
+use Rattle.far_base.specs.declared.log.LogEntry.TheVariants.{Sent, Numbered, Emitted, Answered}
 use Rattle.far_base.specs.declared.log.LogLine.{LogLine}
 use Rattle.far_base.specs.declared.packet.Message.{Message}
 use Rattle.far_base.specs.declared.packet.Packet.{Packet}
-use Rattle.far_base.specs.declared.packet.Packet.TheVariants.{GetReq, WriteReq, GetFwd, WriteFwd, GetRep, WriteRep, GetAns, WriteAns, Hot, Admit, AdmitAck, Peek, PeekAns, Remove, RemoveAns, SnapStart, SnapBegun, SnapRead, SnapPart, Store, Stored, Release, Ask, Told, TopAsk, TopIs}
-use Rattle.far_base.specs.declared.party.Party.{Party}
-use Rattle.far_base.specs.declared.party.Party.TheVariants.{Client, Switch, Server, Controller}
-use Rattle.far_base.specs.declared.plan.Config.{Config}
+use Rattle.far_base.specs.declared.packet.Packet.TheVariants.{GetReq, WriteReq, GetFwd, WriteFwd, GetRep, WriteRep, GetAns, WriteAns, Admit}
 use Rattle.far_model.specs.Clients.{line_of}
 use Rattle.far_model.specs.Coherent.{Earlier, HasOwnNumber, IsAnswering}
 use Rattle.far_model.specs.Invariants.{ShowsAtMostBy, ShowsAtMost, look, entry, reach, IsOwnNumber, IsWritten, WouldBeCurrent}
 use Rattle.far_model.specs.Log.{is_read}
 use Rattle.far_model.specs.Members.{Among, Pairs}
 use Rattle.far_model.specs.State.{State, client_at, line_at}
-use Rattle.far_model.specs.View.{SlotView, server_of}
+use Rattle.far_model.specs.View.{SlotView}
 
 -- ---- what the log says of an operation
 
@@ -54,7 +51,7 @@ pub record NumberStands (plan : PlanView) (s : State) (moment op num : ℕ) : Ty
   pub above : 0 < num
   pub counted : s.running ≡ true → num ≤ s.switch.counter
 
-pub record AnswerStands (plan : PlanView) (s : State) (moment op num : ℕ) (body : Option (List ℕ)) : Type 0 where
+pub record AnswerStands (plan : PlanView) (s : State) (moment op num : ℕ) (body : Option (List ℕ)) (near : Bool) : Type 0 where
   pub sent : IsSent plan s.log moment op
   pub key : List ℕ
   pub on_key : (line_of plan.ops op).key ≡ key
@@ -63,11 +60,12 @@ pub record AnswerStands (plan : PlanView) (s : State) (moment op num : ℕ) (bod
   pub same : is_read (line_of plan.ops op).op ≡ true → body ≡ written
   pub floor : is_read (line_of plan.ops op).op ≡ true → ShowsAtMostBy plan s.log key sent.sent_at num
   pub own : is_read (line_of plan.ops op).op ≡ false → HasOwnNumber s.log moment op num
+  pub stored : is_read (line_of plan.ops op).op ≡ false → ((near ≡ true) × IsOwnNumber s.log moment op num) ⊎ (num ≤ (look plan s key).num)
 
 abbrev pub LineStands : PlanView → State → ℕ → LogEntry → Type 0
 LineStands plan s moment (Sent op line) = line ≡ line_of plan.ops op
 LineStands plan s moment (Numbered op num) = NumberStands plan s moment op num
-LineStands plan s moment (Emitted op num body near) = AnswerStands plan s moment op num body
+LineStands plan s moment (Emitted op num body near) = AnswerStands plan s moment op num body near
 LineStands plan s moment (Answered op) = IsAnswering s.log moment op
 LineStands plan s moment _ = Unit {0}
 

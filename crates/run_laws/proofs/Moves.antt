@@ -1,23 +1,23 @@
 -- Packets of operations move no owner of a slot.
-use Rattle.std.proofs.Common.{◌≡◌, ◌≢◌, ℕ, zero, suc, ◌+◌, ◌<◌, ◌≤◌, ◌⊎◌, inl, inr, Bool, true, false, cond, List, [], ◌∷◌, ◌++◌, length, refl, sym, ap, ◌∙◌, subst, arith}
-use Rattle.std.specs.Prelude.{Option, Some, None, if◌then◌else◌, slice_get, max}
+use Rattle.std.proofs.Common.{◌≡◌, ℕ, inl, inr, true, false, List, [], ◌∷◌, ◌++◌, refl, sym, ap, ◌∙◌, subst, arith}
+use Rattle.std.specs.Prelude.{Option, Some, None, slice_get, max}
 use Rattle.std.specs.List.{remove}
 use Rattle.far_base.specs.PlanView.{PlanView}
 use Rattle.far_base.specs.declared.packet.Message.{Message}
 use Rattle.far_base.specs.declared.packet.Out.{Out}
 use Rattle.far_base.specs.declared.packet.Packet.{Packet}
-use Rattle.far_base.specs.declared.packet.Packet.TheVariants.{GetReq, WriteReq, GetFwd, WriteFwd, GetRep, WriteRep, GetAns, WriteAns, Hot, Admit, AdmitAck, Peek, PeekAns, Remove, RemoveAns, SnapStart, SnapBegun, SnapRead, SnapPart, Store, Stored, Release, Ask, Told, TopAsk, TopIs}
+use Rattle.far_base.specs.declared.packet.Packet.TheVariants.{GetReq, WriteReq, GetFwd, WriteFwd, GetRep, WriteRep, GetAns, WriteAns, Hot}
 use Rattle.far_base.specs.declared.party.Party.{Party}
 use Rattle.far_base.specs.declared.party.Party.TheVariants.{Client, Switch, Server, Controller}
 use Rattle.far_base.specs.declared.plan.OpLine.{OpLine}
 use Rattle.far_base.specs.declared.record.Record.{Record}
-use Rattle.far_model.specs.Clients.{ClientState, line_of, request}
+use Rattle.far_model.specs.Clients.{line_of, request}
 use Rattle.far_model.specs.Events.{handled, reply_at, sends, next_sent, switch_turn}
 use Rattle.far_model.specs.Flights.{subject, is_operation, IsRouted}
 use Rattle.far_model.specs.Log.{is_read}
 use Rattle.far_model.specs.Members.{Among}
 use Rattle.far_model.specs.Parties.{messages_from}
-use Rattle.far_model.specs.Pass.{Passed, pass, sent_to, passed_out, outs_of, read_passes, write_passes, reply_passes, numbered, touched, told_hot, grows_hot, hot_cell, changes, changed_view, part_left, part_of, with_slot, with_taken, absorbing, raised, takes_reply}
+use Rattle.far_model.specs.Pass.{Passed, sent_to, passed_out, outs_of, read_passes, write_passes, reply_passes, numbered, touched, told_hot, grows_hot, hot_cell, changes, changed_view, part_left, part_of, with_slot, with_taken, absorbing, raised, takes_reply}
 use Rattle.far_model.specs.State.{State, client_at}
 use Rattle.far_model.specs.View.{SlotView, SwitchView, slot_at, entry_place, is_taken, server_of}
 use Rattle.far_model.proofs.Members.{among_at}
@@ -66,9 +66,10 @@ write_sits : (v : SwitchView) (caller op : ℕ) (key : List ℕ) (body : Option 
 write_sits v caller op key body None = record { slots = unchanged_slots v (touched key (numbered v)) refl refl refl; first = refl; second = hot_none key (numbered v) }
 write_sits v caller op key body (Some i) = record {
   slots =
-    let h = changed_sits (numbered v) i (absorbing (numbered v).counter body (slot_at v i)) (record { valid = refl; key = refl; tag = refl }) in
-    record { bound = h.bound; epoch = h.epoch; size = h.size; owners = h.owners };
-  first = refl; second = part_none (numbered v) i;
+      let h = changed_sits (numbered v) i (absorbing (numbered v).counter body (slot_at v i)) (record { valid = refl; key = refl; tag = refl }) in
+      record { bound = h.bound; epoch = h.epoch; size = h.size; owners = h.owners };
+  first = refl;
+  second = part_none (numbered v) i;
 }
 
 raised_owner : (num : ℕ) (slot : SlotView) → SameOwner (raised num slot) slot
@@ -90,34 +91,34 @@ module _ (plan : PlanView) (s : State) (h : Seats plan s) (routed : IsRouted pla
   at_switch m p passed at off sits =
       let t : State = switch_turn s (remove s.bag i) p passed in
       seats_last plan s t h (same_seats s t refl sits.slots refl refl (omega arith)
-        (bag_taken s t i m (messages_from Switch (passed_out passed)) at off refl (outs_none passed.first passed.second sits.first sits.second)))
+      (bag_taken s t i m (messages_from Switch (passed_out passed)) at off refl (outs_none passed.first passed.second sits.first sits.second)))
 
   operation_sits : (from to : Party) (p : Packet) → slice_get s.bag i ≡ Some (record { from = from; to = to; packet = p }) → is_operation (subject p) ≡ true
       → Seats plan (handled plan (record { reply = reply_at s to p; records = records }) s (remove s.bag i) to p)
   operation_sits from to (GetReq caller op key) at is =
       subst (λ w. Seats plan (handled plan (record { reply = reply_at s w (GetReq caller op key); records = records }) s (remove s.bag i) w (GetReq caller op key))) (sym (routed.messages _ (among_at _ s.bag i at)).target)
-        (at_switch _ (GetReq caller op key) _ at refl (read_sits s.switch caller op key (entry_place key s.switch)))
+      (at_switch _ (GetReq caller op key) _ at refl (read_sits s.switch caller op key (entry_place key s.switch)))
   operation_sits from to (WriteReq caller op key body) at is =
       subst (λ w. Seats plan (handled plan (record { reply = reply_at s w (WriteReq caller op key body); records = records }) s (remove s.bag i) w (WriteReq caller op key body))) (sym (routed.messages _ (among_at _ s.bag i at)).target)
-        (at_switch _ (WriteReq caller op key body) _ at refl (write_sits s.switch caller op key body (entry_place key s.switch)))
+      (at_switch _ (WriteReq caller op key body) _ at refl (write_sits s.switch caller op key body (entry_place key s.switch)))
   operation_sits from to (GetRep caller op key tag num body) at is =
       subst (λ w. Seats plan (handled plan (record { reply = reply_at s w (GetRep caller op key tag num body); records = records }) s (remove s.bag i) w (GetRep caller op key tag num body))) (sym (routed.messages _ (among_at _ s.bag i at)).target)
-        (at_switch _ (GetRep caller op key tag num body) _ at refl (reply_sits s.switch (Some tag) num body (sent_to (Client caller) (GetAns caller op key num body false)) (entry_place key s.switch) refl))
+      (at_switch _ (GetRep caller op key tag num body) _ at refl (reply_sits s.switch (Some tag) num body (sent_to (Client caller) (GetAns caller op key num body false)) (entry_place key s.switch) refl))
   operation_sits from to (WriteRep caller op key num body) at is =
       subst (λ w. Seats plan (handled plan (record { reply = reply_at s w (WriteRep caller op key num body); records = records }) s (remove s.bag i) w (WriteRep caller op key num body))) (sym (routed.messages _ (among_at _ s.bag i at)).target)
-        (at_switch _ (WriteRep caller op key num body) _ at refl (reply_sits s.switch None num body (sent_to (Client caller) (WriteAns caller op key num false)) (entry_place key s.switch) refl))
+      (at_switch _ (WriteRep caller op key num body) _ at refl (reply_sits s.switch None num body (sent_to (Client caller) (WriteAns caller op key num false)) (entry_place key s.switch) refl))
   operation_sits from to (GetFwd caller op key tag) at is =
       subst (λ w. Seats plan (handled plan (record { reply = reply_at s w (GetFwd caller op key tag); records = records }) s (remove s.bag i) w (GetFwd caller op key tag))) (sym (routed.messages _ (among_at _ s.bag i at)).target)
-        (seats_last plan s _ h (same_seats s _ refl (unchanged_slots s.switch s.switch refl refl refl) refl refl (omega arith) (bag_taken s _ i _ _ at refl refl (one_none _ refl))))
+      (seats_last plan s _ h (same_seats s _ refl (unchanged_slots s.switch s.switch refl refl refl) refl refl (omega arith) (bag_taken s _ i _ _ at refl refl (one_none _ refl))))
   operation_sits from to (WriteFwd caller op key num body) at is =
       subst (λ w. Seats plan (handled plan (record { reply = reply_at s w (WriteFwd caller op key num body); records = records }) s (remove s.bag i) w (WriteFwd caller op key num body))) (sym (routed.messages _ (among_at _ s.bag i at)).target)
-        (seats_last plan s _ h (same_seats s _ refl (unchanged_slots s.switch s.switch refl refl refl) refl refl (omega arith) (bag_taken s _ i _ _ at refl refl (one_none _ refl))))
+      (seats_last plan s _ h (same_seats s _ refl (unchanged_slots s.switch s.switch refl refl refl) refl refl (omega arith) (bag_taken s _ i _ _ at refl refl (one_none _ refl))))
   operation_sits from to (GetAns caller op key num body near) at is =
       subst (λ w. Seats plan (handled plan (record { reply = reply_at s w (GetAns caller op key num body near); records = records }) s (remove s.bag i) w (GetAns caller op key num body near))) (sym (routed.messages _ (among_at _ s.bag i at)).target)
-        (seats_last plan s _ h (same_seats s _ refl (unchanged_slots s.switch s.switch refl refl refl) refl refl (omega arith) (bag_taken s _ i _ [] at refl refl (λ n a. absurd a))))
+      (seats_last plan s _ h (same_seats s _ refl (unchanged_slots s.switch s.switch refl refl refl) refl refl (omega arith) (bag_taken s _ i _ [] at refl refl (λ n a. absurd a))))
   operation_sits from to (WriteAns caller op key num kept) at is =
       subst (λ w. Seats plan (handled plan (record { reply = reply_at s w (WriteAns caller op key num kept); records = records }) s (remove s.bag i) w (WriteAns caller op key num kept))) (sym (routed.messages _ (among_at _ s.bag i at)).target)
-        (seats_last plan s _ h (same_seats s _ refl (unchanged_slots s.switch s.switch refl refl refl) refl refl (omega arith) (bag_taken s _ i _ [] at refl refl (λ n a. absurd a))))
+      (seats_last plan s _ h (same_seats s _ refl (unchanged_slots s.switch s.switch refl refl refl) refl refl (omega arith) (bag_taken s _ i _ [] at refl refl (λ n a. absurd a))))
   operation_sits from to _ at is = absurd cc
 
   pub moved_sits : (m : Message) → slice_get s.bag i ≡ Some m → is_operation (subject m.packet) ≡ true → Seats plan (handled plan (record { reply = reply_at s m.to m.packet; records = records }) s (remove s.bag i) m.to m.packet)

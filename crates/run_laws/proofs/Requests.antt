@@ -1,30 +1,25 @@
 -- Requests to the switch: reads and writes.
-use Rattle.std.proofs.Common.{◌≡◌, ◌≢◌, ℕ, zero, suc, ◌+◌, ◌<◌, ◌≤◌, max, ◌⊎◌, inl, inr, Bool, true, false, List, [], ◌∷◌, ◌++◌, length, refl, sym, ap, ◌∙◌, subst, arith, le_trans}
+use Rattle.std.proofs.Common.{◌≡◌, ◌≢◌, ℕ, ◌+◌, ◌<◌, ◌≤◌, max, inl, inr, Bool, true, false, List, [], ◌∷◌, refl, sym, ap, ◌∙◌, subst, arith, le_trans}
 use Rattle.std.specs.Prelude.{Option, Some, None, if◌then◌else◌}
 use Rattle.std.proofs.lemmas.Option.{same_Some}
 use Rattle.far_base.specs.PlanView.{PlanView}
 use Rattle.far_base.specs.declared.log.LogEntry.{LogEntry}
-use Rattle.far_base.specs.declared.log.LogEntry.TheVariants.{Sent, Numbered, Emitted, Answered}
-use Rattle.far_base.specs.declared.log.LogLine.{LogLine}
+use Rattle.far_base.specs.declared.log.LogEntry.TheVariants.{Numbered, Emitted}
 use Rattle.far_base.specs.declared.packet.Message.{Message}
 use Rattle.far_base.specs.declared.packet.Out.{Out}
-use Rattle.far_base.specs.declared.packet.Packet.{Packet}
-use Rattle.far_base.specs.declared.packet.Packet.TheVariants.{GetReq, WriteReq, GetFwd, WriteFwd, GetAns, WriteAns, Hot}
-use Rattle.far_base.specs.declared.party.Party.{Party}
-use Rattle.far_base.specs.declared.party.Party.TheVariants.{Client, Switch, Server, Controller}
+use Rattle.far_base.specs.declared.packet.Packet.TheVariants.{GetReq, WriteReq, GetFwd, GetAns, WriteAns, Hot}
+use Rattle.far_base.specs.declared.party.Party.TheVariants.{Client, Server, Controller}
 use Rattle.far_model.specs.Clients.{line_of}
-use Rattle.far_model.specs.Coherent.{Rises}
 use Rattle.far_model.specs.Events.{switch_turn}
-use Rattle.far_model.specs.Invariants.{ShowsAtMost, ShowsAtMostBy, look, entry, slot_if, reach, reach_by, IsOwnNumber, IsNumberOf, IsWritten, WouldBeCurrent}
-use Rattle.far_model.specs.Log.{is_read}
-use Rattle.far_model.specs.Members.{Among, Each, Pairs}
-use Rattle.far_model.specs.Pass.{Passed, sent_to, pass, pass_notes, read_at, read_passes, write_passes, numbered, absorbing, touched, told_hot, grows_hot, hot_cell, changes, changed_view, part_left, part_of, with_slot, with_taken}
+use Rattle.far_model.specs.Invariants.{ShowsAtMost, look, entry, slot_if, reach, reach_by, IsOwnNumber, IsWritten, WouldBeCurrent}
+use Rattle.far_model.specs.Members.{Among, Each}
+use Rattle.far_model.specs.Pass.{Passed, sent_to, read_passes, write_passes, numbered, absorbing, touched, told_hot, grows_hot, hot_cell, part_of, with_slot, with_taken}
 use Rattle.far_model.specs.State.{State, client_at, line_at, now, noted, stepped}
 use Rattle.far_model.specs.View.{SlotView, SwitchView, slot_at, entry_place, is_slot_of, is_taken, server_of}
-use Rattle.run_laws.proofs.Frame.{AboutMine, NotOn, ShowsNoMore, off_shows_each, member, note_member, absent_lasts, shown_lasts, shown_by_lasts, shown_within, shown_by_within, shown_shown_by, Grows, past, serves_lasts, tagged_lasts}
-use Rattle.run_laws.proofs.Keeps.{SendsOp, NumbersOp, EmitsOp, AnswersOp, Absent, IsSent, NumberStands, AnswerStands, AdmitsOther, IsDrawn, IsTagged, ServesOp, ReadIsAsked, ReadIsForwarded, WriteIsForwarded, WriteIsAsked, IsBeingAnswered, Keeps}
+use Rattle.run_laws.proofs.Frame.{NotOn, off_shows_each, member, note_member, absent_lasts, shown_lasts, shown_by_lasts, shown_within, shown_shown_by, Grows, serves_lasts}
+use Rattle.run_laws.proofs.Keeps.{EmitsOp, AnswersOp, IsSent, IsDrawn, ServesOp, ReadIsAsked, WriteIsAsked, IsBeingAnswered, Keeps}
 use Rattle.run_laws.proofs.Slots.{IsEntry, SetsSlot, entry_is, entry_set, entry_kept, taken_sets, with_slot_sets}
-use Rattle.run_laws.proofs.Step.{IsOther, AreOthers, NoteIs, GoesWell, AdmitsNone, PassesFor, passed_state, pass_keeps, shown_counted}
+use Rattle.run_laws.proofs.Step.{AreOthers, GoesWell, AdmitsNone, PassesFor, passed_state, pass_keeps, shown_counted}
 
 -- the operation of the step
 abbrev pub Its : ℕ → ℕ → Type 0
@@ -44,7 +39,9 @@ pub written_still : (plan : PlanView) (s : State) (notes : List LogEntry) (key :
 written_still plan s notes key num body h = record {
   none = h.none;
   some = λ above. let w = h.some above in record {
-    op = w.op; on_key = w.on_key; same_body = w.same_body;
+    op = w.op;
+    on_key = w.on_key;
+    same_body = w.same_body;
     own = let before = w.own.before in record { numbered_at = w.own.numbered_at; numbered = member s (stepped s [] notes) notes refl _ w.own.numbered; before = omega (arith, before) };
   };
 }
@@ -56,13 +53,16 @@ sent_still plan s notes op h = record { sent_at = h.sent_at; sent = member s (st
 pub quiet_passes : (plan : PlanView) (s : State) (w : SwitchView) (notes : List LogEntry) (key : List ℕ) → Keeps plan s → w.config ≡ s.switch.config → s.switch.counter ≤ w.counter
     → ((other : List ℕ) → entry other w ≡ entry other s.switch) → ((other : List ℕ) → Each (NotOn plan other) notes) → PassesFor plan s w notes key
 quiet_passes plan s w notes key k config counter same off = record {
-  config = config; counter = counter; others = λ other ne. same other; not_on = λ other ne. off other;
+  config = config;
+  counter = counter;
+  others = λ other ne. same other;
+  not_on = λ other ne. off other;
   covers = λ runs. subst (λ e. ShowsAtMost plan (noted s notes) key (reach_by (look plan s key).num e)) (sym (same key))
-    (shown_lasts s (stepped s [] notes) notes refl plan key (reach plan s key) (k.covers runs key) (off_shows_each plan key (reach plan s key) notes (off key)));
+      (shown_lasts s (stepped s [] notes) notes refl plan key (reach plan s key) (k.covers runs key) (off_shows_each plan key (reach plan s key) notes (off key)));
   drawn = λ slot is. (k.slots key slot (sym (same key) ∙ is)).drawn;
   written = λ slot is latest. written_still plan s notes key slot.num slot.body ((k.slots key slot (sym (same key) ∙ is)).written latest);
   current = λ tag n m c b slot is old under.
-    shown_within plan (noted s notes) key (max n slot.num) (max m slot.num)
+      shown_within plan (noted s notes) key (max n slot.num) (max m slot.num)
       (shown_lasts s (stepped s [] notes) notes refl plan key (max n slot.num) (c slot (sym (same key) ∙ is) old under) (off_shows_each plan key (max n slot.num) notes (off key)))
       (omega (arith, b));
 }
@@ -71,17 +71,20 @@ quiet_passes plan s w notes key k config counter same off = record {
 pub near_passes : (plan : PlanView) (s : State) (op : ℕ) (body : Option (List ℕ)) (near : Bool) (key : List ℕ) (slot : SlotView) → Keeps plan s → (line_of plan.ops op).key ≡ key
     → entry key s.switch ≡ Some slot → slot.latest ≡ true → PassesFor plan s s.switch (Emitted op slot.num body near ∷ []) key
 near_passes plan s op body near key slot k on is latest = record {
-    config = refl; counter = omega arith; others = λ other ne. refl;
-    not_on = λ other ne. (λ q. ne (sym q ∙ on), tt);
-    covers = λ runs. subst (λ n. ShowsAtMost plan (noted s (Emitted op slot.num body near ∷ [])) key n) (sym reaches)
+  config = refl;
+  counter = omega arith;
+  others = λ other ne. refl;
+  not_on = λ other ne. (λ q. ne (sym q ∙ on), tt);
+  covers = λ runs. subst (λ n. ShowsAtMost plan (noted s (Emitted op slot.num body near ∷ [])) key n) (sym reaches)
       (shown_lasts s (stepped s [] (Emitted op slot.num body near ∷ [])) (Emitted op slot.num body near ∷ []) refl plan key slot.num (subst (λ n. ShowsAtMost plan s.log key n) reaches (k.covers runs key)) (λ q. omega arith, tt));
-    drawn = λ other is'. (k.slots key other is').drawn;
-    written = λ other is' l. written_still plan s (Emitted op slot.num body near ∷ []) key other.num other.body ((k.slots key other is').written l);
-    current = λ tag n m c b other is' old under. absurd (clash other (same_Some slot other (sym is ∙ is')) old);
-  }
+  drawn = λ other is'. (k.slots key other is').drawn;
+  written = λ other is' l. written_still plan s (Emitted op slot.num body near ∷ []) key other.num other.body ((k.slots key other is').written l);
+  current = λ tag n m c b other is' old under. absurd (clash other (same_Some slot other (sym is ∙ is')) old);
+}
   where
     reaches : reach plan s key ≡ slot.num
     reaches = reach_latest (look plan s key).num (entry key s.switch) slot is latest
+
     clash : (other : SlotView) → slot ≡ other → other.latest ≡ false → ⊥
     clash other e old = let l = sym latest ∙ ap (λ (w : SlotView). w.latest) e ∙ old in absurd cc
 
@@ -96,14 +99,15 @@ pub set_passes : (plan : PlanView) (s : State) (v w : SwitchView) (notes : List 
     → ((tag n m : ℕ) → WouldBeCurrent plan s key tag n → n ≤ m → slot.latest ≡ false → slot.tag ≡ tag → ShowsAtMost plan (noted s notes) key (max m slot.num))
     → PassesFor plan s w notes key
 set_passes plan s v w notes key i slot config counter same sets is owned off covers drawn written current = record {
-    config = sets.config ∙ config; counter = let e = sets.counter in omega (arith, counter);
-    others = λ other ne. entry_kept other key v w i slot sets is ne ∙ same other;
-    not_on = off;
-    covers = λ runs. subst (λ e. ShowsAtMost plan (noted s notes) key (reach_by (look plan s key).num e)) (sym here) (covers runs);
-    drawn = λ other is'. subst (λ (x : SlotView). IsDrawn s x.tag) (same_Some slot other (sym here ∙ is')) drawn;
-    written = λ other is' l. subst (λ (x : SlotView). x.latest ≡ true → IsWritten plan (noted s notes) (now s) key x.num x.body) (same_Some slot other (sym here ∙ is')) written l;
-    current = λ tag n m c b other is' old under. subst (λ (x : SlotView). x.latest ≡ false → x.tag ≡ tag → ShowsAtMost plan (noted s notes) key (max m x.num)) (same_Some slot other (sym here ∙ is')) (λ o u. current tag n m c b o u) old under;
-  }
+  config = sets.config ∙ config;
+  counter = let e = sets.counter in omega (arith, counter);
+  others = λ other ne. entry_kept other key v w i slot sets is ne ∙ same other;
+  not_on = off;
+  covers = λ runs. subst (λ e. ShowsAtMost plan (noted s notes) key (reach_by (look plan s key).num e)) (sym here) (covers runs);
+  drawn = λ other is'. subst (λ (x : SlotView). IsDrawn s x.tag) (same_Some slot other (sym here ∙ is')) drawn;
+  written = λ other is' l. subst (λ (x : SlotView). x.latest ≡ true → IsWritten plan (noted s notes) (now s) key x.num x.body) (same_Some slot other (sym here ∙ is')) written l;
+  current = λ tag n m c b other is' old under. subst (λ (x : SlotView). x.latest ≡ false → x.tag ≡ tag → ShowsAtMost plan (noted s notes) key (max m x.num)) (same_Some slot other (sym here ∙ is')) (λ o u. current tag n m c b o u) old under;
+}
   where
     here : entry key w ≡ Some slot
     here = entry_set key v w i slot sets is owned
@@ -137,14 +141,16 @@ module _ (plan : PlanView) (s : State) (k : Keeps plan s) (runs : s.running ≡ 
       → GoesWell plan (passed_state s rest (record { view = w; first = sent_to (Server (server_of s.switch.config key)) (GetFwd caller op key tag); second = second }) []) (sent_to (Server (server_of s.switch.config key)) (GetFwd caller op key tag))
   forwards w second tag same reaches drawn g h =
       let t : State = passed_state s rest (record { view = w; first = sent_to (Server (server_of s.switch.config key)) (GetFwd caller op key tag); second = second }) [] in
-      let shown : ShowsAtMost plan t.log key (look plan s key).num = shown_lasts s t [] refl plan key (look plan s key).num (subst (λ n. ShowsAtMost plan s.log key n) reaches (k.covers runs key)) tt in
-      (record {
+      let shown : ShowsAtMost plan t.log key (look plan s key).num = shown_lasts s t [] refl plan key (look plan s key).num (subst (λ n. ShowsAtMost plan s.log key n) reaches (k.covers runs key)) tt in (
+        record {
           serves = serves_lasts plan (Its op) [] s t g caller op key (absent_lasts s t [] refl (AnswersOp op) h.serves.unanswered tt) h.serves;
           read = h.read;
           unemitted = absent_lasts s t [] refl (EmitsOp op) h.unemitted tt;
           floor = shown_shown_by plan t.log key h.serves.sent.sent_at (look plan s key).num shown;
           tagged = record { drawn = g.drawn tag drawn; current = λ slot is old under. shown_within plan t.log key (look plan s key).num (max (look plan s key).num slot.num) shown (omega arith) };
-      }, λ other. tt)
+        },
+        λ other. tt,
+      )
 
   pub read_keeps : ReadIsAsked plan s caller op key → Keeps plan (switch_turn s rest (GetReq caller op key) (read_passes s.switch caller op key (entry_place key s.switch)))
   read_keeps h = place (entry_place key s.switch) refl
@@ -156,44 +162,54 @@ module _ (plan : PlanView) (s : State) (k : Keeps plan s) (runs : s.running ≡ 
           let t : State = passed_state s rest p (Emitted op slot.num slot.body true ∷ []) in
           let reaches : reach plan s key ≡ slot.num = reach_latest (look plan s key).num (entry key s.switch) slot is latest in
           pass_keeps plan (Its op) s rest p (Emitted op slot.num slot.body true ∷ []) key k (near_passes plan s op slot.body true key slot k h.serves.on_key is latest) others (λ tag. tt) tt
-            (λ g. (
-              (answering t (Emitted op slot.num slot.body true ∷ []) slot.num slot.body true g (inl refl) (λ x. x, tt) h.serves, λ tag. tt),
-              tt,
-              (record {
+          (λ g. (
+            (answering t (Emitted op slot.num slot.body true ∷ []) slot.num slot.body true g (inl refl) (λ x. x, tt) h.serves, λ tag. tt),
+            tt,
+            (
+              record {
                 fresh = h.unemitted;
                 stands = record {
                   sent = sent_still plan s (Emitted op slot.num slot.body true ∷ []) op h.serves.sent;
-                  key = key; on_key = h.serves.on_key; written = slot.body;
+                  key = key;
+                  on_key = h.serves.on_key;
+                  written = slot.body;
                   source = written_still plan s (Emitted op slot.num slot.body true ∷ []) key slot.num slot.body ((k.slots key slot is).written latest);
                   same = λ read. refl;
                   floor = λ read. shown_by_lasts s t (Emitted op slot.num slot.body true ∷ []) refl plan key h.serves.sent.sent_at slot.num h.serves.sent.before
-                    (shown_shown_by plan s.log key h.serves.sent.sent_at slot.num (subst (λ n. ShowsAtMost plan s.log key n) reaches (k.covers runs key)));
+                      (shown_shown_by plan s.log key h.serves.sent.sent_at slot.num (subst (λ n. ShowsAtMost plan s.log key n) reaches (k.covers runs key)));
                   own = λ write. absurd (let e = sym h.read ∙ write in cc);
+                  stored = λ write. absurd (let e = sym h.read ∙ write in cc);
                 };
                 about = λ o n. n;
-              }, tt)))
-            (λ o n. n, tt) (tt, tt) (not_left h.serves) (λ o n. n, tt)
+              },
+              tt,
+            ),
+          ))
+          (λ o n. n, tt) (tt, tt) (not_left h.serves) (λ o n. n, tt)
+
       outdated : (slot : SlotView) → entry key s.switch ≡ Some slot → slot.latest ≡ false
           → Keeps plan (switch_turn s rest (GetReq caller op key) (record { view = s.switch; first = sent_to (Server (server_of s.switch.config key)) (GetFwd caller op key slot.tag); second = None }))
       outdated slot is old =
           let p : Passed = record { view = s.switch; first = sent_to (Server (server_of s.switch.config key)) (GetFwd caller op key slot.tag); second = None } in
           pass_keeps plan (Its op) s rest p [] key k (quiet_passes plan s s.switch [] key k refl (omega arith) (λ other. refl) (λ other. tt)) others (λ tag. tt) tt
-            (λ g. (forwards s.switch None slot.tag (λ other. refl) (reach_outdated (look plan s key).num (entry key s.switch) slot is old) (k.slots key slot is).drawn g h, tt, tt))
-            tt tt (not_left h.serves) tt
+          (λ g. (forwards s.switch None slot.tag (λ other. refl) (reach_outdated (look plan s key).num (entry key s.switch) slot is old) (k.slots key slot is).drawn g h, tt, tt))
+          tt tt (not_left h.serves) tt
+
       by_latest : (i : ℕ) → entry key s.switch ≡ Some (slot_at s.switch i) → (b : Bool) → (slot_at s.switch i).latest ≡ b → Keeps plan (switch_turn s rest (GetReq caller op key) (record {
-          view = s.switch;
-          first = if b then sent_to (Client caller) (GetAns caller op key (slot_at s.switch i).num (slot_at s.switch i).body true) else sent_to (Server (server_of s.switch.config key)) (GetFwd caller op key (slot_at s.switch i).tag);
-          second = None;
-        }))
+        view = s.switch;
+        first = if b then sent_to (Client caller) (GetAns caller op key (slot_at s.switch i).num (slot_at s.switch i).body true) else sent_to (Server (server_of s.switch.config key)) (GetFwd caller op key (slot_at s.switch i).tag);
+        second = None;
+      }))
       by_latest i is true l = near (slot_at s.switch i) is l
       by_latest i is false l = outdated (slot_at s.switch i) is l
+
       place : (o : Option ℕ) → entry_place key s.switch ≡ o → Keeps plan (switch_turn s rest (GetReq caller op key) (read_passes s.switch caller op key o))
       place None e =
           let p : Passed = read_passes s.switch caller op key None in
           let hot = hot_goes plan (passed_state s rest p []) key s.switch in
           pass_keeps plan (Its op) s rest p [] key k (quiet_passes plan s (touched key s.switch) [] key k refl (omega arith) (λ other. refl) (λ other. tt)) others (λ tag. tt) hot.1
-            (λ g. (forwards (touched key s.switch) (told_hot key s.switch) 0 (λ other. refl) (reach_none (look plan s key).num (entry key s.switch) (ap (slot_if s.switch) e)) k.untagged g h, hot.0, tt))
-            tt tt (not_left h.serves) tt
+          (λ g. (forwards (touched key s.switch) (told_hot key s.switch) 0 (λ other. refl) (reach_none (look plan s key).num (entry key s.switch) (ap (slot_if s.switch) e)) k.untagged g h, hot.0, tt))
+          tt tt (not_left h.serves) tt
       place (Some i) e = by_latest i (ap (slot_if s.switch) e) (slot_at s.switch i).latest refl
 
   -- ---- writes
@@ -220,70 +236,90 @@ module _ (plan : PlanView) (s : State) (k : Keeps plan s) (runs : s.running ≡ 
       let t : State = write_after w second in
       let is : IsEntry key (numbered s.switch) i = entry_is key (numbered s.switch) i e in
       let shown : ShowsAtMost plan t.log key w.counter = shown_lasts s t (write_notes w) refl plan key w.counter
-        (shown_within plan s.log key s.switch.counter w.counter (shown_counted plan s k runs key) (omega (arith, above))) (tt, (λ q. omega arith, tt)) in
+      (shown_within plan s.log key s.switch.counter w.counter (shown_counted plan s k runs key) (omega (arith, above))) (tt, (λ q. omega arith, tt)) in
       let written : IsWritten plan t.log (now s) key w.counter body = record {
         none = λ zero. absurd (omega (arith, zero, above));
         some = λ more. record { op = op; own = own_now t (write_notes w) w.counter refl (inl refl); on_key = h.serves.on_key; same_body = h.same_body };
       } in
       let f : PassesFor plan s w (write_notes w) key = set_passes plan s (numbered s.switch) w (write_notes w) key i (absorbing w.counter body (slot_at s.switch i)) refl (omega arith) (λ other. refl) sets is is.owned
-        (λ other ne. (tt, (λ q. ne (sym q ∙ h.serves.on_key), tt))) (λ r. shown) (k.slots key (slot_at s.switch i) (ap (slot_if s.switch) e)).drawn (λ l. written) (λ tag n m c b old under. absurd cc) in
+      (λ other ne. (tt, (λ q. ne (sym q ∙ h.serves.on_key), tt))) (λ r. shown) (k.slots key (slot_at s.switch i) (ap (slot_if s.switch) e)).drawn (λ l. written) (λ tag n m c b old under. absurd cc) in
       pass_keeps plan (Its op) s rest p (write_notes w) key k f others (λ tag. tt) admits
-        (λ g. (
-          (answering t (write_notes w) w.counter None true g (inr (inl refl)) (λ x. x, (λ x. x, tt)) h.serves, λ tag. tt),
-          goes t,
-          (record {
+      (λ g. (
+        (answering t (write_notes w) w.counter None true g (inr (inl refl)) (λ x. x, (λ x. x, tt)) h.serves, λ tag. tt),
+        goes t,
+        (
+          record {
             fresh = (h.unnumbered, number_fresh w.counter above);
             stands = record { sent = sent_still plan s (write_notes w) op h.serves.sent; write = h.write; above = omega (arith, above); counted = λ r. omega arith };
             about = λ o n. n;
-          }, (record {
-            fresh = h.unemitted;
-            stands = record {
-              sent = sent_still plan s (write_notes w) op h.serves.sent;
-              key = key; on_key = h.serves.on_key; written = body; source = written;
-              same = λ read. absurd (let e = sym h.write ∙ read in cc);
-              floor = λ read. absurd (let e = sym h.write ∙ read in cc);
-              own = λ write. record { own = w.counter; numbered_at = now s; numbered = note_member s t (write_notes w) refl _ (inl refl); before = omega arith; within = omega arith };
-            };
-            about = λ o n. n;
-          }, tt))))
-        (λ o n. n, (λ o n. n, tt)) ((tt, tt), (tt, tt)) (not_left h.serves) (λ o n. n, (λ o n. n, tt))
+          },
+          (
+            record {
+              fresh = h.unemitted;
+              stands = record {
+                sent = sent_still plan s (write_notes w) op h.serves.sent;
+                key = key;
+                on_key = h.serves.on_key;
+                written = body;
+                source = written;
+                same = λ read. absurd (let e = sym h.write ∙ read in cc);
+                floor = λ read. absurd (let e = sym h.write ∙ read in cc);
+                own = λ write. record { own = w.counter; numbered_at = now s; numbered = note_member s t (write_notes w) refl _ (inl refl); before = omega arith; within = omega arith };
+                stored = λ write. inl (refl, own_now t (write_notes w) w.counter refl (inl refl));
+              };
+              about = λ o n. n;
+            },
+            tt,
+          ),
+        ),
+      ))
+      (λ o n. n, (λ o n. n, tt)) ((tt, tt), (tt, tt)) (not_left h.serves) (λ o n. n, (λ o n. n, tt))
 
   pub write_keeps : (body : Option (List ℕ)) → WriteIsAsked plan s caller op key body → Keeps plan (switch_turn s rest (WriteReq caller op key body) (write_passes (numbered s.switch) caller op key body (entry_place key s.switch)))
   write_keeps body h = place (entry_place key s.switch) refl
     where
       absorbed : (i : ℕ) → entry_place key s.switch ≡ Some i → (b : Bool) → Keeps plan (switch_turn s rest (WriteReq caller op key body) (record {
-          view = let slot = absorbing (s.switch.counter + 1) body (slot_at s.switch i) in if b then with_slot (numbered s.switch) i slot else with_taken (with_slot (numbered s.switch) i slot) i;
-          first = sent_to (Client caller) (WriteAns caller op key (s.switch.counter + 1) true);
-          second = if b then None else part_of (numbered s.switch) i;
-        }))
+        view = let slot = absorbing (s.switch.counter + 1) body (slot_at s.switch i) in if b then with_slot (numbered s.switch) i slot else with_taken (with_slot (numbered s.switch) i slot) i;
+        first = sent_to (Client caller) (WriteAns caller op key (s.switch.counter + 1) true);
+        second = if b then None else part_of (numbered s.switch) i;
+      }))
       absorbed i e true =
           let is : IsEntry key (numbered s.switch) i = entry_is key (numbered s.switch) i e in
           write_absorbs body (with_slot (numbered s.switch) i (absorbing (s.switch.counter + 1) body (slot_at s.switch i))) None i h e
-            (with_slot_sets (numbered s.switch) i (absorbing (s.switch.counter + 1) body (slot_at s.switch i)) is.within) (omega arith) (λ t. tt) tt
+          (with_slot_sets (numbered s.switch) i (absorbing (s.switch.counter + 1) body (slot_at s.switch i)) is.within) (omega arith) (λ t. tt) tt
       absorbed i e false =
           let is : IsEntry key (numbered s.switch) i = entry_is key (numbered s.switch) i e in
           write_absorbs body (with_taken (with_slot (numbered s.switch) i (absorbing (s.switch.counter + 1) body (slot_at s.switch i))) i) (part_of (numbered s.switch) i) i h e
-            (taken_sets (numbered s.switch) i (absorbing (s.switch.counter + 1) body (slot_at s.switch i)) is.within) (omega arith) (λ t. (tt, λ tag. tt)) (λ tag. tt)
+          (taken_sets (numbered s.switch) i (absorbing (s.switch.counter + 1) body (slot_at s.switch i)) is.within) (omega arith) (λ t. (tt, λ tag. tt)) (λ tag. tt)
+
       place : (o : Option ℕ) → entry_place key s.switch ≡ o → Keeps plan (switch_turn s rest (WriteReq caller op key body) (write_passes (numbered s.switch) caller op key body o))
       place None e =
           let p : Passed = write_passes (numbered s.switch) caller op key body None in
           let t : State = passed_state s rest p (Numbered op (s.switch.counter + 1) ∷ []) in
           let hot = hot_goes plan t key (numbered s.switch) in
           pass_keeps plan (Its op) s rest p (Numbered op (s.switch.counter + 1) ∷ []) key k
-            (quiet_passes plan s (touched key (numbered s.switch)) (Numbered op (s.switch.counter + 1) ∷ []) key k refl (omega arith) (λ other. refl) (λ other. (tt, tt))) others (λ tag. tt) hot.1
-            (λ g. (
-              (record {
-                  serves = serves_lasts plan (Its op) (Numbered op (s.switch.counter + 1) ∷ []) s t g caller op key (absent_lasts s t (Numbered op (s.switch.counter + 1) ∷ []) refl (AnswersOp op) h.serves.unanswered (λ x. x, tt)) h.serves;
-                  write = h.write; same_body = h.same_body;
-                  own = own_now t (Numbered op (s.switch.counter + 1) ∷ []) (s.switch.counter + 1) refl (inl refl);
-                  above = omega arith;
-                  unemitted = absent_lasts s t (Numbered op (s.switch.counter + 1) ∷ []) refl (EmitsOp op) h.unemitted (λ x. x, tt);
-              }, λ tag. tt),
-              hot.0,
-              (record {
+          (quiet_passes plan s (touched key (numbered s.switch)) (Numbered op (s.switch.counter + 1) ∷ []) key k refl (omega arith) (λ other. refl) (λ other. (tt, tt))) others (λ tag. tt) hot.1
+          (λ g. (
+            (
+              record {
+                serves = serves_lasts plan (Its op) (Numbered op (s.switch.counter + 1) ∷ []) s t g caller op key (absent_lasts s t (Numbered op (s.switch.counter + 1) ∷ []) refl (AnswersOp op) h.serves.unanswered (λ x. x, tt)) h.serves;
+                write = h.write;
+                same_body = h.same_body;
+                own = own_now t (Numbered op (s.switch.counter + 1) ∷ []) (s.switch.counter + 1) refl (inl refl);
+                above = omega arith;
+                unemitted = absent_lasts s t (Numbered op (s.switch.counter + 1) ∷ []) refl (EmitsOp op) h.unemitted (λ x. x, tt);
+              },
+              λ tag. tt,
+            ),
+            hot.0,
+            (
+              record {
                 fresh = (h.unnumbered, number_fresh (s.switch.counter + 1) (omega arith));
                 stands = record { sent = sent_still plan s (Numbered op (s.switch.counter + 1) ∷ []) op h.serves.sent; write = h.write; above = omega arith; counted = λ r. omega arith };
                 about = λ o n. n;
-              }, tt)))
-            (λ o n. n, tt) (tt, tt) (not_left h.serves) (λ o n. n, tt)
+              },
+              tt,
+            ),
+          ))
+          (λ o n. n, tt) (tt, tt) (not_left h.serves) (λ o n. n, tt)
       place (Some i) e = absorbed i e (is_taken (numbered s.switch) i)

@@ -1,24 +1,21 @@
 -- Slots and their owners, and admissions on their way.
-use Rattle.std.proofs.Common.{◌≡◌, ◌≢◌, ℕ, zero, suc, ◌+◌, ◌<◌, ◌≤◌, ◌⊎◌, inl, inr, Bool, true, false, cond, List, [], ◌∷◌, ◌++◌, length, set, get_or, refl, sym, ap, ◌∙◌, subst, arith, le_trans}
-use Rattle.std.specs.Prelude.{Option, Some, None, if◌then◌else◌, ◌&&◌, nat_eq, slice_get}
+use Rattle.std.proofs.Common.{◌≡◌, ℕ, ◌+◌, ◌≤◌, ◌⊎◌, inl, inr, Bool, true, false, cond, List, [], ◌∷◌, ◌++◌, length, set, get_or, refl, sym, ap, ◌∙◌, subst, arith, le_trans}
+use Rattle.std.specs.Prelude.{Option, Some, None, if◌then◌else◌, ◌&&◌, slice_get}
 use Rattle.std.specs.List.{remove, count_by}
 use Rattle.std.proofs.lemmas.Option.{same_Some, slice_get_within, get_or_from_slice_get}
 use Rattle.std.proofs.lemmas.List.{length-set}
 use Rattle.std.proofs.lemmas.List.Sums.{sum_by-remove, sum_by-append, sum_by-cons}
 use Rattle.far_base.specs.PlanView.{PlanView}
 use Rattle.far_base.specs.declared.packet.Message.{Message}
-use Rattle.far_base.specs.declared.packet.Out.{Out}
 use Rattle.far_base.specs.declared.packet.Packet.{Packet}
-use Rattle.far_base.specs.declared.packet.Packet.TheVariants.{GetReq, WriteReq, GetFwd, WriteFwd, GetRep, WriteRep, GetAns, WriteAns, Hot, Admit, AdmitAck, Peek, PeekAns, Remove, RemoveAns, SnapStart, SnapBegun, SnapRead, SnapPart, Store, Stored, Release, Ask, Told, TopAsk, TopIs}
-use Rattle.far_base.specs.declared.party.Party.{Party}
-use Rattle.far_base.specs.declared.party.Party.TheVariants.{Client, Switch, Server, Controller}
+use Rattle.far_base.specs.declared.packet.Packet.TheVariants.{Admit, AdmitAck}
 use Rattle.far_base.specs.declared.slot_state.SlotState.{SlotState}
 use Rattle.far_base.specs.declared.slot_state.SlotState.TheVariants.{Free, Admitting, Held, Evicting}
 use Rattle.far_model.specs.Evictions.{state_at}
 use Rattle.far_model.specs.Invariants.{IsSlotOf, FitsState, IsGiven, SlotsAreOwned, AdmissionIs, is_admission_of, admits_under, admission_count, AdmissionsInFlight}
-use Rattle.far_model.specs.Members.{Among, Each}
+use Rattle.far_model.specs.Members.{Among}
 use Rattle.far_model.specs.State.{State}
-use Rattle.far_model.specs.View.{SlotView, SwitchView, slot_at, empty_slot, is_slot_of, is_key_there, bound_place, entry_if, entry_place}
+use Rattle.far_model.specs.View.{SlotView, SwitchView, slot_at, empty_slot, is_key_there, bound_place, entry_if, entry_place}
 use Rattle.far_model.proofs.Members.{among_append, among_remove}
 use Rattle.flight_laws.proofs.Lists.{set_field}
 
@@ -131,30 +128,32 @@ pub record SameSeats (s t : State) : Type 0 where
   pub once : (tag : ℕ) → count_by (λ (m : Message). admits_under tag m.packet) t.bag ≤ count_by (λ (m : Message). admits_under tag m.packet) s.bag
 
 admission_lasts : (s t : State) → SameSeats s t → (p : Packet) → AdmissionIs s p → AdmissionIs t p
-admission_lasts s t same (Admit epoch i key tag) h = (let b = h.0 in let more = same.tags in omega (arith, b, more),
-  λ e. let p = h.1 (e ∙ same.epoch) in (ap (λ l. state_at l i) same.states ∙ p.0, (same.slots.owners i).valid ∙ p.1))
+admission_lasts s t same (Admit epoch i key tag) h = (
+  let b = h.0 in let more = same.tags in omega (arith, b, more),
+  λ e. let p = h.1 (e ∙ same.epoch) in (ap (λ l. state_at l i) same.states ∙ p.0, (same.slots.owners i).valid ∙ p.1),
+)
 admission_lasts s t same (AdmitAck i tag) h = (h.0, ap (λ l. state_at l i) same.states ∙ h.1, (same.slots.owners i).valid ∙ h.2)
 admission_lasts s t same _ h = tt
 
 pub seats_last : (plan : PlanView) (s t : State) → Seats plan s → SameSeats s t → Seats plan t
 seats_last plan s t h same = record {
-    running = same.running ∙ h.running;
-    slots = record {
-      epoch = same.slots.epoch ∙ h.slots.epoch ∙ sym same.epoch;
-      bounds = ap length same.slots.bound ∙ h.slots.bounds;
-      slots = same.slots.size ∙ h.slots.slots;
-      states = ap length same.states ∙ h.slots.states;
-      fits = λ i. subst (λ l. FitsState (slot_at t.switch i) (state_at l i)) (sym same.states) (fits_same (slot_at t.switch i) (slot_at s.switch i) (state_at s.controller.slots i) (same.slots.owners i) (h.slots.fits i));
-      apart = λ i j key other tag own ne a b. h.slots.apart i j key other tag own ne (subst (λ l. IsGiven key tag (state_at l i)) same.states a) (subst (λ l. IsGiven other own (state_at l j)) same.states b);
-      drawn = λ i key tag a. let b = h.slots.drawn i key tag (subst (λ l. IsGiven key tag (state_at l i)) same.states a) in let more = same.tags in omega (arith, b, more);
-      owned = λ i key valid k. place_same s.switch t.switch same.slots key ∙ h.slots.owned i key (sym (same.slots.owners i).valid ∙ valid) (sym (same.slots.owners i).key ∙ k);
-    };
-    admissions = record {
-      packets = λ m a. packet m (same.news m a);
-      one = λ i. ap (λ e. count_by (λ (m : Message). is_admission_of i e m.packet) t.bag) same.epoch ∙ same.one i ∙ h.admissions.one i ∙ ap (λ l. admission_count (state_at l i)) (sym same.states);
-      once = λ tag. le_trans (same.once tag) (h.admissions.once tag);
-    };
-  }
+  running = same.running ∙ h.running;
+  slots = record {
+    epoch = same.slots.epoch ∙ h.slots.epoch ∙ sym same.epoch;
+    bounds = ap length same.slots.bound ∙ h.slots.bounds;
+    slots = same.slots.size ∙ h.slots.slots;
+    states = ap length same.states ∙ h.slots.states;
+    fits = λ i. subst (λ l. FitsState (slot_at t.switch i) (state_at l i)) (sym same.states) (fits_same (slot_at t.switch i) (slot_at s.switch i) (state_at s.controller.slots i) (same.slots.owners i) (h.slots.fits i));
+    apart = λ i j key other tag own ne a b. h.slots.apart i j key other tag own ne (subst (λ l. IsGiven key tag (state_at l i)) same.states a) (subst (λ l. IsGiven other own (state_at l j)) same.states b);
+    drawn = λ i key tag a. let b = h.slots.drawn i key tag (subst (λ l. IsGiven key tag (state_at l i)) same.states a) in let more = same.tags in omega (arith, b, more);
+    owned = λ i key valid k. place_same s.switch t.switch same.slots key ∙ h.slots.owned i key (sym (same.slots.owners i).valid ∙ valid) (sym (same.slots.owners i).key ∙ k);
+  };
+  admissions = record {
+    packets = λ m a. packet m (same.news m a);
+    one = λ i. ap (λ e. count_by (λ (m : Message). is_admission_of i e m.packet) t.bag) same.epoch ∙ same.one i ∙ h.admissions.one i ∙ ap (λ l. admission_count (state_at l i)) (sym same.states);
+    once = λ tag. le_trans (same.once tag) (h.admissions.once tag);
+  };
+}
   where
     packet : (m : Message) → Among m s.bag ⊎ (is_admission_packet m.packet ≡ false) → AdmissionIs t m.packet
     packet m (inl a) = admission_lasts s t same m.packet (h.admissions.packets m a)
@@ -168,13 +167,14 @@ pub record SameBag (s t : State) : Type 0 where
 pub bag_taken : (s t : State) (i : ℕ) (m : Message) (new : List Message) → slice_get s.bag i ≡ Some m → is_admission_packet m.packet ≡ false → t.bag ≡ remove s.bag i ++ new
     → ((n : Message) → Among n new → is_admission_packet n.packet ≡ false) → SameBag s t
 bag_taken s t i m new at off e news = record {
-    news = λ n a. go n (among_append n (remove s.bag i) new (subst (λ w. Among n w) e a));
-    count = λ p none. count p none;
-  }
+  news = λ n a. go n (among_append n (remove s.bag i) new (subst (λ w. Among n w) e a));
+  count = λ p none. count p none;
+}
   where
     go : (n : Message) → Among n (remove s.bag i) ⊎ Among n new → Among n s.bag ⊎ (is_admission_packet n.packet ≡ false)
     go n (inl a) = inl (among_remove n s.bag i a)
     go n (inr a) = inr (news n a)
+
     count : (p : Packet → Bool) → ((q : Packet) → is_admission_packet q ≡ false → p q ≡ false) → count_by (λ (m : Message). p m.packet) t.bag ≡ count_by (λ (m : Message). p m.packet) s.bag
     count p none =
         let first = count_removed (λ (m : Message). p m.packet) s.bag i m at in
@@ -185,12 +185,12 @@ bag_taken s t i m new at off e news = record {
 
 pub bag_grown : (s t : State) (new : List Message) → t.bag ≡ s.bag ++ new → ((n : Message) → Among n new → is_admission_packet n.packet ≡ false) → SameBag s t
 bag_grown s t new e news = record {
-    news = λ n a. go n (among_append n s.bag new (subst (λ w. Among n w) e a));
-    count = λ p none.
+  news = λ n a. go n (among_append n s.bag new (subst (λ w. Among n w) e a));
+  count = λ p none.
       let more = count_append (λ (m : Message). p m.packet) s.bag new in
       let nothing = count_none (λ (m : Message). p m.packet) new (λ n a. none n.packet (news n a)) in
       ap (λ l. count_by (λ (m : Message). p m.packet) l) e ∙ omega (arith, more, nothing);
-  }
+}
   where
     go : (n : Message) → Among n s.bag ⊎ Among n new → Among n s.bag ⊎ (is_admission_packet n.packet ≡ false)
     go n (inl a) = inl a
@@ -198,21 +198,30 @@ bag_grown s t new e news = record {
 
 pub same_seats : (s t : State) → t.running ≡ s.running → SameSlots s.switch t.switch → t.controller.epoch ≡ s.controller.epoch → t.controller.slots ≡ s.controller.slots → s.controller.next_tag ≤ t.controller.next_tag → SameBag s t → SameSeats s t
 same_seats s t running slots epoch states tags bag = record {
-  running = running; slots = slots; epoch = epoch; states = states; tags = tags; news = bag.news;
+  running = running;
+  slots = slots;
+  epoch = epoch;
+  states = states;
+  tags = tags;
+  news = bag.news;
   one = λ i. bag.count (λ q. is_admission_of i s.controller.epoch q) (no_admission_of i s.controller.epoch);
   once = λ tag. let e = bag.count (λ q. admits_under tag q) (admits_no_tag tag) in omega (arith, e);
 }
 
 pub unchanged_slots : (v w : SwitchView) → w.bound ≡ v.bound → w.epoch ≡ v.epoch → w.slots ≡ v.slots → SameSlots v w
 unchanged_slots v w b e s = record {
-  bound = b; epoch = e; size = ap length s;
+  bound = b;
+  epoch = e;
+  size = ap length s;
   owners = λ i. record { valid = ap (λ l. (get_or l i empty_slot).valid) s; key = ap (λ l. (get_or l i empty_slot).key) s; tag = ap (λ l. (get_or l i empty_slot).tag) s };
 }
 
 -- one slot is set, and has the owner that it had
 pub set_slots : (v w : SwitchView) (i : ℕ) (slot : SlotView) → w.bound ≡ v.bound → w.epoch ≡ v.epoch → w.slots ≡ set v.slots i slot → SameOwner slot (slot_at v i) → SameSlots v w
 set_slots v w i slot b e s same = record {
-  bound = b; epoch = e; size = ap length s ∙ length-set v.slots i slot;
+  bound = b;
+  epoch = e;
+  size = ap length s ∙ length-set v.slots i slot;
   owners = λ j. record {
     valid = ap (λ l. (get_or l j empty_slot).valid) s ∙ set_field (λ (x : SlotView). x.valid) v.slots i slot empty_slot same.valid j;
     key = ap (λ l. (get_or l j empty_slot).key) s ∙ set_field (λ (x : SlotView). x.key) v.slots i slot empty_slot same.key j;

@@ -1,12 +1,12 @@
 -- The slots of a switch: whose a slot is, and what setting one changes.
-use Rattle.std.proofs.Common.{◌≡◌, ◌≢◌, ℕ, zero, suc, ◌<◌, ◌≤◌, ◌⊎◌, inl, inr, Bool, true, false, List, [], ◌∷◌, length, refl, sym, ap, ◌∙◌, subst, arith}
-use Rattle.std.specs.Prelude.{Option, Some, None, ◌&&◌, if◌then◌else◌, get_or, set, slice_set, slice_index_or}
+use Rattle.std.proofs.Common.{◌≡◌, ◌≢◌, ℕ, zero, suc, ◌<◌, ◌⊎◌, inl, inr, Bool, true, false, List, [], ◌∷◌, length, refl, sym, ap, ◌∙◌, subst, arith}
+use Rattle.std.specs.Prelude.{Option, Some, None, ◌&&◌, if◌then◌else◌, get_or}
 use Rattle.std.specs.Cmp.Lexicographic.{bytes_decides}
 use Rattle.std.proofs.lemmas.Option.{same_Some}
 use Rattle.std.proofs.lemmas.List.{get_or-set_same, get_or-set_other}
 use Rattle.far_model.specs.Log.{same_key}
-use Rattle.far_model.specs.Pass.{with_slot, with_taken, changed_view, absorbing, raised, touched}
-use Rattle.far_model.specs.View.{SlotView, SwitchView, slot_at, is_key_there, next_place, bound_place, is_slot_of, entry_if, entry_place, empty_slot, is_taken}
+use Rattle.far_model.specs.Pass.{with_slot, with_taken}
+use Rattle.far_model.specs.View.{SlotView, SwitchView, slot_at, is_key_there, next_place, bound_place, is_slot_of, entry_if, entry_place, empty_slot}
 use Rattle.far_model.specs.Invariants.{entry, slot_if}
 
 pub same_key_true : (a b : List ℕ) → same_key a b ≡ true → a ≡ b
@@ -35,6 +35,7 @@ bound_there key (b ∷ bs) i h = go (λ j e. bound_there key bs j e) (is_key_the
     next : ((j : ℕ) → bound_place key bs ≡ Some j → get_or bs j None ≡ Some key) → (o : Option ℕ) → bound_place key bs ≡ o → next_place o ≡ Some i → get_or (b ∷ bs) i None ≡ Some key
     next f None e k = absurd cc
     next f (Some j) e k = subst (λ w. get_or (b ∷ bs) w None ≡ Some key) (same_Some _ _ k) (f j e)
+
     go : ((j : ℕ) → bound_place key bs ≡ Some j → get_or bs j None ≡ Some key) → (t : Bool) → is_key_there key b ≡ t → (if t then Some 0 else next_place (bound_place key bs)) ≡ Some i → get_or (b ∷ bs) i None ≡ Some key
     go f true e k = subst (λ w. get_or (b ∷ bs) w None ≡ Some key) (same_Some _ _ k) (there_is key b e)
     go f false e k = next f (bound_place key bs) refl k
@@ -65,6 +66,7 @@ entry_is key v i h = go (bound_place key v.bound) refl h
         let same = same_Some j i k in
         subst (λ w. IsEntry key v w) same (record { bound = b; owned = e; within = valid_within v.slots j (both _ _ e).0 })
     fits j b false e k = absurd cc
+
     go : (o : Option ℕ) → bound_place key v.bound ≡ o → entry_if key v o ≡ Some i → IsEntry key v i
     go None e k = absurd cc
     go (Some j) e k = fits j e (is_slot_of key (slot_at v j)) refl k
@@ -79,14 +81,18 @@ pub record SetsSlot (v w : SwitchView) (i : ℕ) (slot : SlotView) : Type 0 wher
 
 pub with_slot_sets : (v : SwitchView) (i : ℕ) (slot : SlotView) → i < length v.slots → SetsSlot v (with_slot v i slot) i slot
 with_slot_sets v i slot h = record {
-  bound = refl; config = refl; counter = refl;
+  bound = refl;
+  config = refl;
+  counter = refl;
   here = get_or-set_same v.slots i slot empty_slot h;
   there = λ j n. get_or-set_other v.slots i j slot empty_slot n;
 }
 
 pub taken_sets : (v : SwitchView) (i : ℕ) (slot : SlotView) → i < length v.slots → SetsSlot v (with_taken (with_slot v i slot) i) i slot
 taken_sets v i slot h = record {
-  bound = refl; config = refl; counter = refl;
+  bound = refl;
+  config = refl;
+  counter = refl;
   here = get_or-set_same v.slots i slot empty_slot h;
   there = λ j n. get_or-set_other v.slots i j slot empty_slot n;
 }
@@ -112,6 +118,7 @@ entry_kept other key v w i slot h k ne = ap (λ b. slot_if w (entry_if other w (
         pick true false e = absurd cc
         pick false true e = absurd cc
         pick false false e = refl
+
     go : (o : Option ℕ) → bound_place other v.bound ≡ o → slot_if w (entry_if other w o) ≡ slot_if v (entry_if other v o)
     go None e = refl
     go (Some j) e = fits j (λ same. ne (bound_one other key v.bound i (e ∙ ap Some same) k.bound))

@@ -1,28 +1,26 @@
 -- A step keeps everything: what each kind of step still has to show.
-use Rattle.std.proofs.Common.{◌≡◌, ◌≢◌, ℕ, zero, suc, ◌<◌, ◌≤◌, max, ◌⊎◌, inl, inr, Bool, true, false, List, [], ◌∷◌, ◌++◌, map, length, refl, sym, ap, ◌∙◌, subst, arith, le_trans}
-use Rattle.std.specs.Prelude.{Option, Some, None, slice_get}
-use Rattle.std.specs.List.{remove}
+use Rattle.std.proofs.Common.{◌≡◌, ◌≢◌, ℕ, zero, suc, ◌≤◌, max, ◌⊎◌, inl, inr, Bool, true, false, List, [], ◌∷◌, ◌++◌, length, refl, sym, ap, ◌∙◌, subst, arith}
+use Rattle.std.specs.Prelude.{Option, Some, None}
 use Rattle.far_base.specs.PlanView.{PlanView}
 use Rattle.far_base.specs.declared.log.LogEntry.{LogEntry}
-use Rattle.far_base.specs.declared.log.LogEntry.TheVariants.{Sent, Numbered, Emitted, Answered}
+use Rattle.far_base.specs.declared.log.LogEntry.TheVariants.{Sent, Emitted}
 use Rattle.far_base.specs.declared.log.LogLine.{LogLine}
 use Rattle.far_base.specs.declared.packet.Message.{Message}
 use Rattle.far_base.specs.declared.packet.Out.{Out}
 use Rattle.far_base.specs.declared.packet.Packet.{Packet}
-use Rattle.far_base.specs.declared.party.Party.{Party}
-use Rattle.far_base.specs.declared.party.Party.TheVariants.{Client, Switch, Server, Controller}
+use Rattle.far_base.specs.declared.party.Party.TheVariants.{Switch}
 use Rattle.far_model.specs.Clients.{line_of}
 use Rattle.far_model.specs.Coherent.{Rises, Earlier}
 use Rattle.far_model.specs.Flights.{subject, OfOperation}
 use Rattle.far_model.specs.Invariants.{ShowsAtMost, look, entry, reach, reach_by, IsWritten, WouldBeCurrent}
 use Rattle.far_model.specs.Members.{Among, Each, Pairs}
 use Rattle.far_model.specs.Parties.{messages_from}
-use Rattle.far_model.specs.Pass.{Passed, passed_out, pass_notes, outs_of}
+use Rattle.far_model.specs.Pass.{Passed, passed_out, outs_of}
 use Rattle.far_model.specs.State.{State, client_at, line_at, now, noted, stepped}
 use Rattle.far_model.specs.View.{SlotView, SwitchView}
-use Rattle.far_model.proofs.Members.{among_append, among_map_from, each_among, among_remove}
-use Rattle.run_laws.proofs.Frame.{AboutMine, NotOn, ShowsNoMore, IsNote, off_shows_each, log_cases, member, shown_lasts, shown_within, Grows, still, past, written_lasts, line_is_lasts, relies_lasts, left_lasts, IsFresh, order_lasts}
-use Rattle.run_laws.proofs.Keeps.{SendsOp, AdmitsOther, IsDrawn, IsTagged, LineStands, LineIs, Relies, LeftIs, SlotIs, WasAnswered, IsOpenOrAnswered, Keeps}
+use Rattle.far_model.proofs.Members.{among_append, each_among}
+use Rattle.run_laws.proofs.Frame.{AboutMine, NotOn, IsNote, off_shows_each, log_cases, member, shown_lasts, shown_within, Grows, written_lasts, line_is_lasts, relies_lasts, left_lasts, IsFresh, order_lasts}
+use Rattle.run_laws.proofs.Keeps.{SendsOp, AdmitsOther, IsDrawn, LineStands, LineIs, Relies, LeftIs, SlotIs, IsOpenOrAnswered, Keeps}
 use Rattle.run_laws.proofs.Slots.{key_cases}
 
 -- the message is of no operation of this step
@@ -61,13 +59,19 @@ pub next : (plan : PlanView) (Mine : ℕ → Type 0) (notes : List LogEntry) (s 
     → ((m : Message) → Among m t.bag → (Among m s.bag × IsOther Mine m.packet) ⊎ Relies plan t m.packet)
     → Holds plan t → Keeps plan t
 next plan Mine notes s t k g n pairs bag h = record {
-    some_server = k.some_server; servers = h.servers; config = h.config;
-    order = subst (λ w. Pairs Earlier w) (sym g.log) (order_lasts plan s notes k (each_part (NoteIs plan Mine s t) (IsFresh s.log) notes (λ e x. x.fresh) n) pairs);
-    lines = λ l a. line l (log_cases s t notes g.log l a);
-    relies = λ m a. flight m (bag m a);
-    records = h.records; left = h.left; open_or_answered = h.open_or_answered; covers = h.covers; slots = h.slots;
-    untagged = g.drawn 0 k.untagged;
-  }
+  some_server = k.some_server;
+  servers = h.servers;
+  config = h.config;
+  order = subst (λ w. Pairs Earlier w) (sym g.log) (order_lasts plan s notes k (each_part (NoteIs plan Mine s t) (IsFresh s.log) notes (λ e x. x.fresh) n) pairs);
+  lines = λ l a. line l (log_cases s t notes g.log l a);
+  relies = λ m a. flight m (bag m a);
+  records = h.records;
+  left = h.left;
+  open_or_answered = h.open_or_answered;
+  covers = h.covers;
+  slots = h.slots;
+  untagged = g.drawn 0 k.untagged;
+}
   where
     line : (l : LogLine) → Among l s.log ⊎ IsNote notes (now s) l → LineIs plan t l
     line l (inl a) = line_is_lasts plan Mine notes s t g l (k.lines l a)
@@ -75,6 +79,7 @@ next plan Mine notes s t k g n pairs bag h = record {
         let passed : now s ≤ t.steps = let e = g.steps in omega arith in
         let new : LineIs plan t (line_at (now s) m.entry) = record { passed = passed; stands = (each_among (NoteIs plan Mine s t) m.entry notes n m.among).stands } in
         subst (λ w. LineIs plan t w) (sym m.is) new
+
     flight : (m : Message) → (Among m s.bag × IsOther Mine m.packet) ⊎ Relies plan t m.packet → Relies plan t m.packet
     flight m (inl a) = relies_lasts plan Mine notes s t g m.packet a.1 (k.relies m a.0)
     flight m (inr f) = f
@@ -156,11 +161,15 @@ module _ (plan : PlanView) (Mine : ℕ → Type 0) (s : State) (rest : List Mess
 
   pub pass_grows : PassesFor plan s p.view notes key → AreOthers Mine s rest → AdmitsNone p.first → AdmitsNone p.second → Each (AboutMine Mine) notes → Grows plan Mine notes s after
   pass_grows f others a b about = record {
-      log = refl; about = about; steps = refl; running = λ r. r; counter = f.counter;
-      more = λ other. omega arith;
-      drawn = drawn;
-      current = λ other tag n m d c b slot is old under. current other (key_cases other key) tag n m c b slot is old under;
-    }
+    log = refl;
+    about = about;
+    steps = refl;
+    running = λ r. r;
+    counter = f.counter;
+    more = λ other. omega arith;
+    drawn = drawn;
+    current = λ other tag n m d c b slot is old under. current other (key_cases other key) tag n m c b slot is old under;
+  }
     where
       drawn : (tag : ℕ) → IsDrawn s tag → IsDrawn after tag
       drawn tag d = record { below = d.below; admitted = λ m h. go m (among_append m rest (messages_from Switch (passed_out p)) h) }
@@ -168,10 +177,11 @@ module _ (plan : PlanView) (Mine : ℕ → Type 0) (s : State) (rest : List Mess
           go : (m : Message) → Among m rest ⊎ Among m (messages_from Switch (passed_out p)) → AdmitsOther tag m.packet
           go m (inl h) = d.admitted m (others m h).0
           go m (inr h) = admits_none p.first p.second a b m h tag
+
       current : (other : List ℕ) → (other ≡ key) ⊎ (other ≢ key) → (tag n m : ℕ) → WouldBeCurrent plan s other tag n → n ≤ m → WouldBeCurrent plan after other tag m
       current other (inl same) tag n m c b slot is old under =
           subst (λ k. WouldBeCurrent plan s k tag n → entry k p.view ≡ Some slot → ShowsAtMost plan (noted s notes) k (max m slot.num)) (sym same)
-            (λ c' is'. f.current tag n m c' b slot is' old under) c is
+          (λ c' is'. f.current tag n m c' b slot is' old under) c is
       current other (inr ne) tag n m c b slot is old under =
           let first = shown_lasts s after notes refl plan other (max n slot.num) (c slot (sym (f.others other ne) ∙ is) old under) (off_shows_each plan other (max n slot.num) notes (f.not_on other ne)) in
           shown_within plan (noted s notes) other (max n slot.num) (max m slot.num) first (omega (arith, b))
@@ -186,7 +196,8 @@ module _ (plan : PlanView) (Mine : ℕ → Type 0) (s : State) (rest : List Mess
       let g = pass_grows f others a b about in
       let w = new g in
       next plan Mine notes s after k g w.2 pairs (λ m h. bag w m (among_append m rest (messages_from Switch (passed_out p)) h)) (record {
-        servers = k.servers; config = f.config ∙ k.config;
+        servers = k.servers;
+        config = f.config ∙ k.config;
         records = λ other. written_lasts plan Mine notes s after g s.steps (now s) other _ _ (omega arith) (k.records other);
         left = λ c. left_lasts plan Mine notes s after g c refl (unsent c) (k.left c);
         open_or_answered = λ at op h. waits_on op (k.open_or_answered at op (sent_before plan s after notes refl sent at op h));
@@ -198,14 +209,17 @@ module _ (plan : PlanView) (Mine : ℕ → Type 0) (s : State) (rest : List Mess
           → Among m rest ⊎ Among m (messages_from Switch (passed_out p)) → (Among m s.bag × IsOther Mine m.packet) ⊎ Relies plan after m.packet
       bag w m (inl h) = inl (others m h)
       bag w m (inr h) = inr (outs_go plan after p.first p.second w.0 w.1 m h).0
+
       waits_on : (op : ℕ) → IsOpenOrAnswered plan s op → IsOpenOrAnswered plan after op
       waits_on op (inl waits) = inl waits
       waits_on op (inr h) = inr (record { answered_at = h.answered_at; answered = member s after notes refl _ h.answered })
+
       covers : s.running ≡ true → (other : List ℕ) → (other ≡ key) ⊎ (other ≢ key) → ShowsAtMost plan after.log other (reach plan after other)
       covers runs other (inl same) = subst (λ k. ShowsAtMost plan (noted s notes) k (reach_by (look plan s k).num (entry k p.view))) (sym same) (f.covers runs)
       covers runs other (inr ne) =
           let first = shown_lasts s after notes refl plan other (reach plan s other) (k.covers runs other) (off_shows_each plan other (reach plan s other) notes (f.not_on other ne)) in
           subst (λ e. ShowsAtMost plan (noted s notes) other (reach_by (look plan s other).num e)) (sym (f.others other ne)) first
+
       slots : Grows plan Mine notes s after → (other : List ℕ) → (other ≡ key) ⊎ (other ≢ key) → (slot : SlotView) → entry other p.view ≡ Some slot → SlotIs plan after other slot
       slots g other (inl same) slot is = subst (λ k. entry k p.view ≡ Some slot → SlotIs plan after k slot) (sym same)
           (λ is'. record { drawn = g.drawn slot.tag (f.drawn slot is'); written = f.written slot is' }) is

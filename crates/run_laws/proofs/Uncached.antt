@@ -1,22 +1,20 @@
 -- Every run of a plan without a cache keeps the invariants.
-use Rattle.std.proofs.Common.{◌≡◌, ℕ, Bool, true, false, List, [], ◌∷◌, refl, sym, ap, ◌∙◌, subst, arith}
-use Rattle.std.specs.Prelude.{Option, Some, None, slice_get, length}
-use Rattle.std.specs.List.{remove}
+use Rattle.std.proofs.Common.{◌≡◌, ℕ, true, List, [], ◌∷◌, refl}
+use Rattle.std.specs.Prelude.{Option, Some, None, slice_get}
 use Rattle.far_base.specs.PlanView.{PlanView}
 use Rattle.far_base.specs.declared.event.Event.{Event}
 use Rattle.far_base.specs.declared.event.Event.TheVariants.{Send, Deliver, Tick, Recover, Restart, Order as OrderOf}
 use Rattle.far_base.specs.declared.packet.Message.{Message}
 use Rattle.far_base.specs.declared.packet.Packet.{Packet}
-use Rattle.far_base.specs.declared.packet.Packet.TheVariants.{GetReq, WriteReq, GetFwd, WriteFwd, GetRep, WriteRep, GetAns, WriteAns, Hot, Admit, AdmitAck, Peek, PeekAns, Remove, RemoveAns, SnapStart, SnapBegun, SnapRead, SnapPart, Store, Stored, Release, Ask, Told, TopAsk, TopIs}
+use Rattle.far_base.specs.declared.packet.Packet.TheVariants.{GetReq, WriteReq, GetFwd, WriteFwd, GetRep, WriteRep, GetAns, WriteAns}
 use Rattle.far_base.specs.declared.party.Party.{Party}
 use Rattle.far_base.specs.declared.record.Record.{Record}
 use Rattle.far_base.specs.declared.plan.Config.{Config}
 use Rattle.far_model.specs.Events.{happens, keeping_of, is_enabled, delivers, can_deliver_some, reply_to, all_listed}
 use Rattle.far_model.specs.Flights.{subject, is_operation, OneFlightPerOperation, IsRouted}
-use Rattle.far_model.specs.Members.{Among}
 use Rattle.far_model.specs.Runs.{run, IsRun}
 use Rattle.far_model.specs.State.{State, opening}
-use Rattle.far_model.specs.Uncached.{IsUncachedPlan, IsUncached, GoesTo, is_send_or_deliver}
+use Rattle.far_model.specs.Uncached.{IsUncachedPlan, IsUncached, GoesTo}
 use Rattle.far_model.proofs.Members.{among_at}
 use Rattle.flight_laws.proofs.Handling.{IsInFlight, flight_opens, flight_step}
 use Rattle.flight_laws.proofs.WithoutCache.{answers_in_kind, opening_uncached, happens_uncached, only_messages}
