@@ -1,3 +1,5 @@
+mod Picks
+mod Replays
 pub mod BaseLaws
 pub mod Fields
 pub mod Loops

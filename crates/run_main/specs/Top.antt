@@ -31,7 +31,7 @@ abbrev pub log_of : State → LogView
 log_of s = record { steps = s.steps; lines = s.log }
 
 -- the run of a workload by its picks, to its end
-pub record IsRunOf (w : WorkView) (events : List Event) : Type 0 where
+pub record IsPickedRun (w : WorkView) (events : List Event) : Type 0 where
   pub enabled : IsRun w.plan (opening w.plan) events
   pub picked : IsPickedFrom w.plan (listed_pick w.picks) 0 (opening w.plan) events
 
@@ -42,7 +42,7 @@ pub record IsReplayOf (input text : List ℕ) : Type 0 where
   pub reads : IsBaseForm input work
   pub short : length input ≤ INPUT_LIMIT
   pub events : List Event
-  pub runs : IsRunOf work events
+  pub runs : IsPickedRun work events
   pub answered : AllAnswered work.plan (run work.plan (opening work.plan) events)
   pub linearizable : (history : List Placed) → IsHistory (run work.plan (opening work.plan) events).log history → IsLinearizable (run work.plan (opening work.plan) events).log history
   pub report : IsReport (log_of (run work.plan (opening work.plan) events)) text

@@ -36,14 +36,17 @@ fn listed_pick(picks: &[u64], number: usize) -> u64
 
 /// Steps the world by the picks until no event can happen.
 fn run_by_picks(world: &mut World, picks: &[u64]) -> Result<(), Memory>
+    requires uncached { IsUncachedPlan world.old.plan }
     requires events { world.old.events ≡ [] }
     requires state { world.old.state ≡ opening world.old.plan }
     ensures plan { world.new.plan ≡ world.old.plan }
     ensures picked { OnOk result (runs.IsPickedFrom world.new.plan (runs.listed_pick picks.now) 0 (opening world.new.plan) world.new.events) }
     ensures quiet { OnOk result (runs.is_quiet world.new.plan world.new.state ≡ true) }
 {
+    flight_laws::uncached_work();
     let mut number = 0;
     while !world.quiet() {
+        flight_laws::uncached_runs();
         world.step(listed_pick(picks, number))?;
         number += 1;
     }
@@ -55,10 +58,12 @@ fn run_of(alloc: Global, plan: Plan, picks: &[u64]) -> Result<World, Memory>
     requires { IsUncachedPlan plan }
     ensures plan { IfOk result (λ world. world.plan ≡ plan) }
     ensures picked { IfOk result (λ world. runs.IsPickedFrom world.plan (runs.listed_pick picks.now) 0 (opening world.plan) world.events) }
-    ensures quiet { IfOk result (λ world. runs.is_quiet world.plan world.state ≡ true) }
+    ensures finished { IfOk result (λ world. runs.is_finished world.plan world.state ≡ true) }
 {
     let mut world = World::start(alloc, plan)?;
     run_by_picks(&mut world, picks)?;
+    // Nothing can happen, so all is done.
+    let _finished = world.finished();
     Ok(world)
 }
 

@@ -14,44 +14,38 @@ const USAGE: &[u8] = b"usage: far replay, run, image, recover, or bulk START OPS
 const NOT_BUILT: &[u8] = b"not built\n";
 
 /// Why a command ended with no report.
+#[derive(Clone, Copy, Debug, PartialEq, Eq)]
 enum Stop {
     Read,
     Memory,
     NotBuilt,
 }
 
-impl From<ReadStop> for Stop {
-    fn from(stop: ReadStop) -> Self {
-        match stop {
-            ReadStop::Memory => Stop::Memory,
-            ReadStop::TooLarge => Stop::NotBuilt,
-            ReadStop::Failed => Stop::Read,
-        }
-    }
-}
+ghost use Rattle.std.specs.Prelude.{◌≡◌, ◌≤◌, ◌↔◌, ◌⊎◌, IsTrue, IfOk, IfSome, OnErr, IsErrOf, map, length, string_bytes};
+ghost use Rattle.far_outside.specs.Faults.{Rose};
+ghost use Rattle.far_outside.specs.Reading.{IsFurther};
+ghost use Rattle.run_main.specs.BaseForm.{WorkView, IsBaseForm};
+ghost use Rattle.run_main.specs.Top.{IsReplay, IsReplayOf, IsNotBuilt, ReadsThrough, Says, WroteTold, ReadToEnd, SettlesReplay, usage_line, not_built_line};
 
-impl From<BaseFault> for Stop {
-    fn from(fault: BaseFault) -> Self {
-        match fault {
-            BaseFault::Memory => Stop::Memory,
-            BaseFault::NotBase => Stop::NotBuilt,
-        }
-    }
-}
-
-fn is_replay(words: &[String]) -> bool {
+fn is_replay(words: &[String]) -> bool
+    ensures { IsTrue result ↔ IsReplay (map string_bytes words.now) }
+{
     matches!(words, [word] if word.as_str() == "replay")
 }
 
 /// Writes the text, in one call, and answers the status that goes with it.
-fn say<D: Sink>(sink: &mut D, text: &[u8], status: Status) -> Status {
+fn say<D: Sink>(sink: &mut D, text: &[u8], status: Status) -> Status
+    ensures said { Says (D.written sink.old) (D.written sink.new) text.now status result }
+    ensures cause { result ≡ Status.WriteFault → Rose (D.fault_count sink.old) (D.fault_count sink.new) }
+    ensures settled { ¬ Rose (D.fault_count sink.old) (D.fault_count sink.new) → (result ≡ status) ⊎ (result ≡ Status.Memory) }
+    requires { status ≢ Status.WriteFault }
+{
     match sink.write(text) {
         Ok(()) => status,
         Err(SinkFault::Memory) => Status::Memory,
         Err(SinkFault::Failed) => Status::WriteFault,
     }
 }
-
 fn replayed<S: Source>(alloc: Global, source: &mut S) -> Result<Vec<u8>, Stop> {
     let text = read_all(alloc, source, INPUT_LIMIT)?;
     Ok(replay(alloc, &text)?)
