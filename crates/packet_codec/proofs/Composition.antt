@@ -1,5 +1,5 @@
 -- A field that is read is what was spelled, and what was spelled is read.
-use Rattle.std.proofs.Common.{◌≡◌, ℕ, inl, inr, List, [], ◌++◌, Result, Ok, Err, refl, sym, ap, subst, ◌∙◌, append_assoc}
+use Rattle.std.proofs.Common.{◌≡◌, ℕ, inl, inr, List, ◌++◌, Ok, Err, refl, sym, ap, subst, ◌∙◌, append_assoc}
 use Rattle.packet_codec.specs.declared.fault.BadPacket.{BadPacket}
 use Rattle.packet_codec.specs.declared.fault.BadPacket.TheVariants.{Short}
 use Rattle.packet_codec.specs.Reading.{◌>>=◌, ◌then◌, ◌into◌, Field, made}

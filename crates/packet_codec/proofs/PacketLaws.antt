@@ -1,12 +1,12 @@
 -- A packet that is read is what was spelled, and what was spelled is read.
-use Rattle.std.proofs.Common.{◌≡◌, ℕ, zero, suc, ◌+◌, ◌<◌, ◌≤◌, ◌⊎◌, Bool, true, false, cond, eqb, List, [], ◌∷◌, ◌++◌, length, Result, Ok, Err, inl, inr, refl, sym, ap, subst, ◌∙◌, arith}
+use Rattle.std.proofs.Common.{◌≡◌, ℕ, suc, ◌<◌, ◌≤◌, ◌⊎◌, Bool, true, false, cond, eqb, List, [], ◌∷◌, ◌++◌, Ok, Err, inl, inr, refl, subst, ◌∙◌, arith}
 use Rattle.std.proofs.lemmas.Bool.Decides.{nat_tests}
 use Rattle.far_base.specs.declared.packet.Packet.{Packet}
 use Rattle.far_base.specs.declared.packet.Packet.TheVariants.{GetReq, WriteReq, GetFwd, WriteFwd, GetRep, WriteRep, GetAns, WriteAns, Hot, Admit, AdmitAck, Peek, PeekAns, Remove, RemoveAns, SnapStart, SnapBegun, SnapRead, SnapPart, Store, Stored, Release, Ask, Told, TopAsk, TopIs}
 use Rattle.packet_codec.specs.declared.fault.BadPacket.{BadPacket}
 use Rattle.packet_codec.specs.declared.fault.BadPacket.TheVariants as bad
 use Rattle.packet_codec.specs.declared.wire.TheConstants.{VERSION, KIND_COUNT}
-use Rattle.packet_codec.specs.Reading.{◌>>=◌, ◌into◌, Field, made, byte_at, IsFieldFault}
+use Rattle.packet_codec.specs.Reading.{◌into◌, Field, made, byte_at, IsFieldFault}
 use Rattle.packet_codec.specs.Packets.{fields_at, versioned, packet_at, get_req_at, write_req_at, get_fwd_at, write_fwd_at, get_rep_at, write_rep_at, get_ans_at, write_ans_at, hot_at, admit_at, admit_ack_at, peek_at, peek_ans_at, remove_at, remove_ans_at, snap_start_at, snap_begun_at, snap_read_at, snap_part_at, store_at, stored_at, release_at, ask_at, told_at, top_ask_at, top_is_at}
 use Rattle.packet_codec.specs.Spelling.{Part, ◌and◌, row}
 use Rattle.packet_codec.proofs.Steps.{ok_err, err_is, met, AreBytes, AreBytes-rest, IsMore, one_cut, err_of_met, ok_is}
