@@ -13,6 +13,7 @@ mod packet;
 mod party;
 mod plan;
 mod record;
+mod slot_state;
 
 pub use body::{BODY_LIMIT, Body};
 pub use event::Event;
@@ -27,6 +28,7 @@ pub use plan::{
     SLOT_LIMIT, SNAP_LIMIT, STEP_LIMIT, STOP_LIMIT,
 };
 pub use record::Record;
+pub use slot_state::{Due, SlotState};
 
 #[cfg(test)]
 mod tests;

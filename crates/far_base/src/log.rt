@@ -79,7 +79,7 @@ pub struct LogLine {
 
 /// The place of an operation in the history: operations are ordered by the moment, then the
 /// number, then writes before reads, then the operation.
-#[derive(Clone, Copy, Debug, PartialEq, Eq)]
+#[derive(Clone, Copy, Debug, PartialEq, Eq, PartialOrd, Ord)]
 pub struct Placed {
     pub moment: u64,
     pub num: u64,
