@@ -1,5 +1,5 @@
 -- A field that is read is what was spelled, and what was spelled is read.
-use Rattle.std.proofs.Common.{◌≡◌, ℕ, inl, inr, List, [], ◌++◌, Result, Ok, Err, refl, sym, ap, subst, ◌∙◌, append_assoc}
+use Rattle.std.proofs.Common.{◌≡◌, ℕ, inl, inr, List, ◌++◌, Ok, Err, refl, sym, ap, subst, ◌∙◌, append_assoc}
 use Rattle.packet_codec.specs.declared.fault.BadPacket.{BadPacket}
 use Rattle.packet_codec.specs.declared.fault.BadPacket.TheVariants.{Short}
 use Rattle.packet_codec.specs.Reading.{◌>>=◌, ◌then◌, ◌into◌, Field, made}
@@ -57,14 +57,18 @@ module _ {F : BadPacket → Type 0} {A B : Type 0} {s : A → Part} {r : Field A
         ]
       ]
 
-  -- two fields, one after the other
-  pub pair : IsField F (λ (x : A × B). s x.0 and t x.1) (r then q)
+  pair : IsField F (λ (x : A × B). s x.0 and t x.1) (r then q)
   pair = record {
     takes = both_takes;
     again = λ x rest h. rw (append_assoc (s x.0).bytes (t x.1).bytes rest, f.again x.0 ((t x.1).bytes ++ rest) h.0, g.again x.1 rest h.1) refl;
     cut = λ x front back h e d. both_cut x front back h.0 h.1 (cut_of (s x.0).bytes (t x.1).bytes front back e) d;
     faults = both_faults;
   }
+
+-- two fields, one after the other
+infixl 12 ◌&◌
+pub ◌&◌ : {F : BadPacket → Type 0} {A B : Type 0} {s : A → Part} {r : Field A} {t : B → Part} {q : Field B} → IsField F s r → IsField F t q → IsField F (λ (x : A × B). s x.0 and t x.1) (r then q)
+f & g = pair f g
 
 module _ {F : BadPacket → Type 0} {A B : Type 0} {s : A → Part} {r : Field A} {head : B → A} {t : B → Part} {q : A → Field B} (f : IsField F s r) (g : IsBehind F head t q) where
   into_takes : (bytes : List ℕ) (x : B) (rest : List ℕ) → AreBytes bytes → (r into q) bytes ≡ Ok (x, rest) → Takes bytes (s (head x) and t x) rest

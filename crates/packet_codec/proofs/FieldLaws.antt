@@ -1,6 +1,6 @@
 -- The laws of each field.
-use Rattle.std.proofs.Common.{◌≡◌, ℕ, zero, suc, ◌+◌, ◌^◌, ◌<◌, ◌≤◌, Bool, true, false, ◌&&◌, cond, ltb, eqb, List, [], ◌∷◌, ◌++◌, length, get_or, take, drop, Option, Some, None, Result, Ok, Err, inl, inr, refl, sym, ap, subst, ◌∙◌, arith}
-use Rattle.std.specs.Prelude.{IsTrue, is_some}
+use Rattle.std.proofs.Common.{◌≡◌, ℕ, zero, suc, ◌^◌, ◌<◌, ◌≤◌, Bool, true, false, ◌&&◌, ltb, eqb, List, [], ◌∷◌, ◌++◌, length, take, drop, Option, Some, None, Ok, Err, inl, inr, refl, sym, ap, subst, ◌∙◌, arith}
+use Rattle.std.specs.Prelude.{is_some}
 use Rattle.std.specs.Int.{Width, w16, w32, w64, from_be_bytes, to_be_bytes}
 use Rattle.std.proofs.lemmas.Bool.{ltb-false, le-ltb, lt-ltb}
 use Rattle.std.proofs.lemmas.Bool.Decides.{nat_tests}
@@ -13,10 +13,10 @@ use Rattle.far_base.specs.declared.key.TheConstants.{KEY_LENGTH}
 use Rattle.far_base.specs.declared.record.Record.{Record}
 use Rattle.packet_codec.specs.declared.fault.BadPacket.{BadPacket}
 use Rattle.packet_codec.specs.declared.fault.BadPacket.TheVariants.{Short, Flag, Pad, Length}
-use Rattle.packet_codec.specs.Reading.{◌>>=◌, ◌then◌, ◌into◌, Field, made, taken_at, byte_at, u16_at, u32_at, u64_at, flag_of, flag_at, key_of, key_at, limit_of, shown_at, text_behind, body_at, record_of, rec_at, rec_behind, held_at, IsFieldFault}
+use Rattle.packet_codec.specs.Reading.{◌then◌, made, taken_at, u16_at, u32_at, u64_at, flag_at, key_of, key_at, limit_of, shown_at, text_behind, body_at, record_of, rec_at, rec_behind, held_at, IsFieldFault}
 use Rattle.packet_codec.specs.Spelling.{Part, ◌and◌, u16_part, u32_part, u64_part, flag_part, key_part, text_part, body_part, rec_part, inner_part, held_part}
 use Rattle.packet_codec.proofs.Steps.{bind_ok, bind_err, ok_is, ok_err, err_is, passed, met, AreBytes, AreBytes-take, AreBytes-drop, AreBytes-rest, IsMore, more_length, one_cut, err_of_test, err_of_met}
-use Rattle.packet_codec.proofs.Composition.{Takes, IsField, IsBehind, pair, headed, made_takes, made_again, made_cut, made_faults}
+use Rattle.packet_codec.proofs.Composition.{Takes, IsField, IsBehind, ◌&◌, headed, made_takes, made_again, made_cut, made_faults}
 
 -- ---- so many bytes
 
@@ -228,12 +228,12 @@ behind_text = record { takes = text_takes; again = text_again; cut = text_cut; f
 
 pub field_body : IsField IsFieldFault body_part body_at
 unfolding body_part body_at
-field_body = headed (pair field_flag field_u16) behind_text
+field_body = headed (field_flag & field_u16) behind_text
 
 -- ---- records
 
 field_triple : IsField IsFieldFault (λ f. key_part f.0.0 and u64_part f.0.1 and body_part f.1) (key_at then u64_at then body_at)
-field_triple = pair (pair field_key field_u64) field_body
+field_triple = field_key & field_u64 & field_body
 
 pub field_rec : IsField IsFieldFault rec_part rec_at
 unfolding rec_part rec_at

@@ -1,16 +1,16 @@
 -- A packet that is read is what was spelled, and what was spelled is read.
-use Rattle.std.proofs.Common.{◌≡◌, ℕ, zero, suc, ◌+◌, ◌<◌, ◌≤◌, ◌⊎◌, Bool, true, false, cond, eqb, List, [], ◌∷◌, ◌++◌, length, Result, Ok, Err, inl, inr, refl, sym, ap, subst, ◌∙◌, arith}
+use Rattle.std.proofs.Common.{◌≡◌, ℕ, suc, ◌<◌, ◌≤◌, ◌⊎◌, Bool, true, false, cond, eqb, List, [], ◌∷◌, ◌++◌, Ok, Err, inl, inr, refl, subst, ◌∙◌, arith}
 use Rattle.std.proofs.lemmas.Bool.Decides.{nat_tests}
 use Rattle.far_base.specs.declared.packet.Packet.{Packet}
 use Rattle.far_base.specs.declared.packet.Packet.TheVariants.{GetReq, WriteReq, GetFwd, WriteFwd, GetRep, WriteRep, GetAns, WriteAns, Hot, Admit, AdmitAck, Peek, PeekAns, Remove, RemoveAns, SnapStart, SnapBegun, SnapRead, SnapPart, Store, Stored, Release, Ask, Told, TopAsk, TopIs}
 use Rattle.packet_codec.specs.declared.fault.BadPacket.{BadPacket}
 use Rattle.packet_codec.specs.declared.fault.BadPacket.TheVariants as bad
 use Rattle.packet_codec.specs.declared.wire.TheConstants.{VERSION, KIND_COUNT}
-use Rattle.packet_codec.specs.Reading.{◌>>=◌, ◌into◌, Field, made, byte_at, IsFieldFault}
+use Rattle.packet_codec.specs.Reading.{◌into◌, Field, made, byte_at, IsFieldFault}
 use Rattle.packet_codec.specs.Packets.{fields_at, versioned, packet_at, get_req_at, write_req_at, get_fwd_at, write_fwd_at, get_rep_at, write_rep_at, get_ans_at, write_ans_at, hot_at, admit_at, admit_ack_at, peek_at, peek_ans_at, remove_at, remove_ans_at, snap_start_at, snap_begun_at, snap_read_at, snap_part_at, store_at, stored_at, release_at, ask_at, told_at, top_ask_at, top_is_at}
 use Rattle.packet_codec.specs.Spelling.{Part, ◌and◌, row}
 use Rattle.packet_codec.proofs.Steps.{ok_err, err_is, met, AreBytes, AreBytes-rest, IsMore, one_cut, err_of_met, ok_is}
-use Rattle.packet_codec.proofs.Composition.{Takes, IsField, IsBehind, pair, headed, made_takes, made_again, made_cut, made_faults}
+use Rattle.packet_codec.proofs.Composition.{Takes, IsField, IsBehind, ◌&◌, headed, made_takes, made_again, made_cut, made_faults}
 use Rattle.packet_codec.proofs.FieldLaws.{field_u32, field_u64, field_flag, field_key, field_body, field_rec, field_held}
 
 -- the faults up to the last field
@@ -55,12 +55,14 @@ behind-within bad.Rest h = absurd h
 
 -- reads the fields of the kind of this number
 record IsKind (n : ℕ) (read : Field Packet) : Type 0 where
+  within : n ≤ KIND_COUNT
   takes : (bytes : List ℕ) (p : Packet) (rest : List ℕ) → AreBytes bytes → read bytes ≡ Ok (p, rest) → Takes bytes (row p).fields rest × ((row p).kind ≡ n)
   faults : (bytes : List ℕ) (fault : BadPacket) → read bytes ≡ Err fault → IsFieldFault fault
 
-of_kind : {A : Type 0} {s : A → Part} {r : Field A} (n : ℕ) (make : A → Packet) → IsField IsFieldFault s r
+of_kind : {A : Type 0} {s : A → Part} {r : Field A} (n : ℕ) → n ≤ KIND_COUNT → (make : A → Packet) → IsField IsFieldFault s r
     → ((bytes : List ℕ) (x : A) (rest : List ℕ) → Takes bytes (s x) rest → Takes bytes (row (make x)).fields rest × ((row (make x)).kind ≡ n)) → IsKind n (made make r)
-of_kind n make f same = record {
+of_kind n within make f same = record {
+  within = within;
   takes = made_takes f make (λ bytes p rest. Takes bytes (row p).fields rest × ((row p).kind ≡ n)) same;
   faults = made_faults f make;
 }
@@ -73,7 +75,7 @@ pub record AreKinds (from n : ℕ) (read : Field Packet) : Type 0 where
   pub unknown : (bytes : List ℕ) → read bytes ≡ Err bad.Kind → from ≤ n → KIND_COUNT < n
   pub other : (bytes : List ℕ) → (n < from) ⊎ (KIND_COUNT < n) → read bytes ≡ Err bad.Kind
 
-module _ (n m : ℕ) (here there : Field Packet) (f : IsKind m here) (g : AreKinds (suc m) n there) (within : m ≤ KIND_COUNT) where
+module _ (n m : ℕ) (here there : Field Packet) (f : IsKind m here) (g : AreKinds (suc m) n there) where
   chosen_takes : (b : Bool) → eqb n m ≡ b → (bytes : List ℕ) (p : Packet) (rest : List ℕ) → AreBytes bytes → cond b (here bytes) (there bytes) ≡ Ok (p, rest) → Takes bytes (row p).fields rest × ((row p).kind ≡ n)
   chosen_takes true test bytes p rest h e =
       let same : m ≡ n = grind (arith, nat_tests) in
@@ -94,6 +96,7 @@ module _ (n m : ℕ) (here there : Field Packet) (f : IsKind m here) (g : AreKin
   chosen_other : (b : Bool) → eqb n m ≡ b → (bytes : List ℕ) → (n < m) ⊎ (KIND_COUNT < n) → cond b (here bytes) (there bytes) ≡ Err bad.Kind
   chosen_other true test bytes h =
       let same : n ≡ m = grind (arith, nat_tests) in
+      let within : m ≤ KIND_COUNT = f.within in
       elim h [ inl lt ↦ absurd (omega arith) | inr lt ↦ absurd (omega arith) ]
   chosen_other false test bytes h = g.other bytes (elim h [ inl lt ↦ inl (omega arith) | inr lt ↦ inr lt ])
 
@@ -104,6 +107,11 @@ module _ (n m : ℕ) (here there : Field Packet) (f : IsKind m here) (g : AreKin
     unknown = chosen_unknown (eqb n m) refl;
     other = chosen_other (eqb n m) refl;
   }
+
+-- this kind, or one of those from the next number on
+infixr 5 ◌or_else◌
+◌or_else◌ : {n m : ℕ} {here there : Field Packet} → IsKind m here → AreKinds (suc m) n there → AreKinds m n (λ bytes. cond (eqb n m) (here bytes) (there bytes))
+◌or_else◌ {n} {m} {here} {there} f g = choose n m here there f g
 
 no_kind : (n : ℕ) → AreKinds (suc KIND_COUNT) n (λ bytes. Err bad.Kind)
 no_kind n = record {
@@ -117,33 +125,33 @@ no_kind n = record {
 pub kinds : (n : ℕ) → AreKinds 1 n (fields_at n)
 unfolding fields_at get_req_at write_req_at get_fwd_at write_fwd_at get_rep_at write_rep_at get_ans_at write_ans_at hot_at admit_at admit_ack_at peek_at peek_ans_at remove_at remove_ans_at snap_start_at snap_begun_at snap_read_at snap_part_at store_at stored_at release_at ask_at told_at top_ask_at top_is_at
 kinds n =
-    (choose n 1 _ _ (of_kind 1 _ (pair (pair field_u32 field_u32) field_key) (λ bytes x rest t. (t, refl)))
-    (choose n 2 _ _ (of_kind 2 _ (pair (pair (pair field_u32 field_u32) field_key) field_body) (λ bytes x rest t. (t, refl)))
-    (choose n 3 _ _ (of_kind 3 _ (pair (pair (pair field_u32 field_u32) field_key) field_u64) (λ bytes x rest t. (t, refl)))
-    (choose n 4 _ _ (of_kind 4 _ (pair (pair (pair (pair field_u32 field_u32) field_key) field_u64) field_body) (λ bytes x rest t. (t, refl)))
-    (choose n 5 _ _ (of_kind 5 _ (pair (pair (pair (pair (pair field_u32 field_u32) field_key) field_u64) field_u64) field_body) (λ bytes x rest t. (t, refl)))
-    (choose n 6 _ _ (of_kind 6 _ (pair (pair (pair (pair field_u32 field_u32) field_key) field_u64) field_body) (λ bytes x rest t. (t, refl)))
-    (choose n 7 _ _ (of_kind 7 _ (pair (pair (pair (pair (pair field_u32 field_u32) field_key) field_u64) field_body) field_flag) (λ bytes x rest t. (t, refl)))
-    (choose n 8 _ _ (of_kind 8 _ (pair (pair (pair (pair field_u32 field_u32) field_key) field_u64) field_flag) (λ bytes x rest t. (t, refl)))
-    (choose n 9 _ _ (of_kind 9 _ field_key (λ bytes x rest t. (t, refl)))
-    (choose n 10 _ _ (of_kind 10 _ (pair (pair (pair field_u32 field_u32) field_key) field_u64) (λ bytes x rest t. (t, refl)))
-    (choose n 11 _ _ (of_kind 11 _ (pair field_u32 field_u64) (λ bytes x rest t. (t, refl)))
-    (choose n 12 _ _ (of_kind 12 _ (pair (pair field_u32 field_u32) field_u64) (λ bytes x rest t. (t, refl)))
-    (choose n 13 _ _ (of_kind 13 _ (pair (pair (pair (pair field_u32 field_u64) field_flag) field_u64) field_body) (λ bytes x rest t. (t, refl)))
-    (choose n 14 _ _ (of_kind 14 _ (pair (pair (pair (pair field_u32 field_u32) field_u64) field_flag) field_u64) (λ bytes x rest t. (t, refl)))
-    (choose n 15 _ _ (of_kind 15 _ (pair (pair (pair (pair (pair field_u32 field_u64) field_flag) field_flag) field_u64) field_body) (λ bytes x rest t. (t, refl)))
-    (choose n 16 _ _ (of_kind 16 _ (pair field_u32 field_u32) (λ bytes x rest t. (t, refl)))
-    (choose n 17 _ _ (of_kind 17 _ (pair field_u32 field_u64) (λ bytes x rest t. (t, refl)))
-    (choose n 18 _ _ (of_kind 18 _ (pair (pair field_u32 field_u32) field_u32) (λ bytes x rest t. (t, refl)))
-    (choose n 19 _ _ (of_kind 19 _ (pair (pair field_u32 field_u32) field_held) (λ bytes x rest t. (t, refl)))
-    (choose n 20 _ _ (of_kind 20 _ (pair field_u64 field_rec) (λ bytes x rest t. (t, refl)))
-    (choose n 21 _ _ (of_kind 21 _ field_u64 (λ bytes x rest t. (t, refl)))
-    (choose n 22 _ _ (of_kind 22 _ field_u64 (λ bytes x rest t. (t, refl)))
-    (choose n 23 _ _ (of_kind 23 _ field_u32 (λ bytes x rest t. (t, refl)))
-    (choose n 24 _ _ (of_kind 24 _ (pair (pair (pair field_u32 field_u32) field_u32) field_held) (λ bytes x rest t. (t, refl)))
-    (choose n 25 _ _ (of_kind 25 _ field_u32 (λ bytes x rest t. (t, refl)))
-    (choose n 26 _ _ (of_kind 26 _ (pair (pair field_u32 field_u32) field_u64) (λ bytes x rest t. (t, refl)))
-    (no_kind n) (omega arith)) (omega arith)) (omega arith)) (omega arith)) (omega arith)) (omega arith)) (omega arith)) (omega arith)) (omega arith)) (omega arith)) (omega arith)) (omega arith)) (omega arith)) (omega arith)) (omega arith)) (omega arith)) (omega arith)) (omega arith)) (omega arith)) (omega arith)) (omega arith)) (omega arith)) (omega arith)) (omega arith)) (omega arith)) (omega arith))
+    of_kind 1 (omega arith) _ (field_u32 & field_u32 & field_key) (λ bytes x rest t. (t, refl)) or_else
+    of_kind 2 (omega arith) _ (field_u32 & field_u32 & field_key & field_body) (λ bytes x rest t. (t, refl)) or_else
+    of_kind 3 (omega arith) _ (field_u32 & field_u32 & field_key & field_u64) (λ bytes x rest t. (t, refl)) or_else
+    of_kind 4 (omega arith) _ (field_u32 & field_u32 & field_key & field_u64 & field_body) (λ bytes x rest t. (t, refl)) or_else
+    of_kind 5 (omega arith) _ (field_u32 & field_u32 & field_key & field_u64 & field_u64 & field_body) (λ bytes x rest t. (t, refl)) or_else
+    of_kind 6 (omega arith) _ (field_u32 & field_u32 & field_key & field_u64 & field_body) (λ bytes x rest t. (t, refl)) or_else
+    of_kind 7 (omega arith) _ (field_u32 & field_u32 & field_key & field_u64 & field_body & field_flag) (λ bytes x rest t. (t, refl)) or_else
+    of_kind 8 (omega arith) _ (field_u32 & field_u32 & field_key & field_u64 & field_flag) (λ bytes x rest t. (t, refl)) or_else
+    of_kind 9 (omega arith) _ field_key (λ bytes x rest t. (t, refl)) or_else
+    of_kind 10 (omega arith) _ (field_u32 & field_u32 & field_key & field_u64) (λ bytes x rest t. (t, refl)) or_else
+    of_kind 11 (omega arith) _ (field_u32 & field_u64) (λ bytes x rest t. (t, refl)) or_else
+    of_kind 12 (omega arith) _ (field_u32 & field_u32 & field_u64) (λ bytes x rest t. (t, refl)) or_else
+    of_kind 13 (omega arith) _ (field_u32 & field_u64 & field_flag & field_u64 & field_body) (λ bytes x rest t. (t, refl)) or_else
+    of_kind 14 (omega arith) _ (field_u32 & field_u32 & field_u64 & field_flag & field_u64) (λ bytes x rest t. (t, refl)) or_else
+    of_kind 15 (omega arith) _ (field_u32 & field_u64 & field_flag & field_flag & field_u64 & field_body) (λ bytes x rest t. (t, refl)) or_else
+    of_kind 16 (omega arith) _ (field_u32 & field_u32) (λ bytes x rest t. (t, refl)) or_else
+    of_kind 17 (omega arith) _ (field_u32 & field_u64) (λ bytes x rest t. (t, refl)) or_else
+    of_kind 18 (omega arith) _ (field_u32 & field_u32 & field_u32) (λ bytes x rest t. (t, refl)) or_else
+    of_kind 19 (omega arith) _ (field_u32 & field_u32 & field_held) (λ bytes x rest t. (t, refl)) or_else
+    of_kind 20 (omega arith) _ (field_u64 & field_rec) (λ bytes x rest t. (t, refl)) or_else
+    of_kind 21 (omega arith) _ field_u64 (λ bytes x rest t. (t, refl)) or_else
+    of_kind 22 (omega arith) _ field_u64 (λ bytes x rest t. (t, refl)) or_else
+    of_kind 23 (omega arith) _ field_u32 (λ bytes x rest t. (t, refl)) or_else
+    of_kind 24 (omega arith) _ (field_u32 & field_u32 & field_u32 & field_held) (λ bytes x rest t. (t, refl)) or_else
+    of_kind 25 (omega arith) _ field_u32 (λ bytes x rest t. (t, refl)) or_else
+    of_kind 26 (omega arith) _ (field_u32 & field_u32 & field_u64) (λ bytes x rest t. (t, refl)) or_else
+    no_kind n
 
 -- ---- one packet
 
@@ -157,32 +165,32 @@ well f make x = record { again = λ rest h. made_again f make x rest h; cut = λ
 -- each kind, by its fields
 well_read : (p : Packet) → IsRead (fields_at (row p).kind) (row p).fields p
 unfolding fields_at get_req_at write_req_at get_fwd_at write_fwd_at get_rep_at write_rep_at get_ans_at write_ans_at hot_at admit_at admit_ack_at peek_at peek_ans_at remove_at remove_ans_at snap_start_at snap_begun_at snap_read_at snap_part_at store_at stored_at release_at ask_at told_at top_ask_at top_is_at
-well_read (GetReq caller op key) = well (pair (pair field_u32 field_u32) field_key) _ ((caller, op), key)
-well_read (WriteReq caller op key body) = well (pair (pair (pair field_u32 field_u32) field_key) field_body) _ (((caller, op), key), body)
-well_read (GetFwd caller op key tag) = well (pair (pair (pair field_u32 field_u32) field_key) field_u64) _ (((caller, op), key), tag)
-well_read (WriteFwd caller op key num body) = well (pair (pair (pair (pair field_u32 field_u32) field_key) field_u64) field_body) _ ((((caller, op), key), num), body)
-well_read (GetRep caller op key tag num body) = well (pair (pair (pair (pair (pair field_u32 field_u32) field_key) field_u64) field_u64) field_body) _ (((((caller, op), key), tag), num), body)
-well_read (WriteRep caller op key num body) = well (pair (pair (pair (pair field_u32 field_u32) field_key) field_u64) field_body) _ ((((caller, op), key), num), body)
-well_read (GetAns caller op key num body near) = well (pair (pair (pair (pair (pair field_u32 field_u32) field_key) field_u64) field_body) field_flag) _ (((((caller, op), key), num), body), near)
-well_read (WriteAns caller op key num kept) = well (pair (pair (pair (pair field_u32 field_u32) field_key) field_u64) field_flag) _ ((((caller, op), key), num), kept)
+well_read (GetReq caller op key) = well (field_u32 & field_u32 & field_key) _ ((caller, op), key)
+well_read (WriteReq caller op key body) = well (field_u32 & field_u32 & field_key & field_body) _ (((caller, op), key), body)
+well_read (GetFwd caller op key tag) = well (field_u32 & field_u32 & field_key & field_u64) _ (((caller, op), key), tag)
+well_read (WriteFwd caller op key num body) = well (field_u32 & field_u32 & field_key & field_u64 & field_body) _ ((((caller, op), key), num), body)
+well_read (GetRep caller op key tag num body) = well (field_u32 & field_u32 & field_key & field_u64 & field_u64 & field_body) _ (((((caller, op), key), tag), num), body)
+well_read (WriteRep caller op key num body) = well (field_u32 & field_u32 & field_key & field_u64 & field_body) _ ((((caller, op), key), num), body)
+well_read (GetAns caller op key num body near) = well (field_u32 & field_u32 & field_key & field_u64 & field_body & field_flag) _ (((((caller, op), key), num), body), near)
+well_read (WriteAns caller op key num kept) = well (field_u32 & field_u32 & field_key & field_u64 & field_flag) _ ((((caller, op), key), num), kept)
 well_read (Hot key) = well field_key _ key
-well_read (Admit epoch slot key tag) = well (pair (pair (pair field_u32 field_u32) field_key) field_u64) _ (((epoch, slot), key), tag)
-well_read (AdmitAck slot tag) = well (pair field_u32 field_u64) _ (slot, tag)
-well_read (Peek epoch slot tag) = well (pair (pair field_u32 field_u32) field_u64) _ ((epoch, slot), tag)
-well_read (PeekAns slot tag latest num body) = well (pair (pair (pair (pair field_u32 field_u64) field_flag) field_u64) field_body) _ ((((slot, tag), latest), num), body)
-well_read (Remove epoch slot tag latest num) = well (pair (pair (pair (pair field_u32 field_u32) field_u64) field_flag) field_u64) _ ((((epoch, slot), tag), latest), num)
-well_read (RemoveAns slot tag done latest num body) = well (pair (pair (pair (pair (pair field_u32 field_u64) field_flag) field_flag) field_u64) field_body) _ (((((slot, tag), done), latest), num), body)
-well_read (SnapStart epoch id) = well (pair field_u32 field_u32) _ (epoch, id)
-well_read (SnapBegun id point) = well (pair field_u32 field_u64) _ (id, point)
-well_read (SnapRead epoch id slot) = well (pair (pair field_u32 field_u32) field_u32) _ ((epoch, id), slot)
-well_read (SnapPart id slot view) = well (pair (pair field_u32 field_u32) field_held) _ ((id, slot), view)
-well_read (Store job item) = well (pair field_u64 field_rec) _ (job, item)
+well_read (Admit epoch slot key tag) = well (field_u32 & field_u32 & field_key & field_u64) _ (((epoch, slot), key), tag)
+well_read (AdmitAck slot tag) = well (field_u32 & field_u64) _ (slot, tag)
+well_read (Peek epoch slot tag) = well (field_u32 & field_u32 & field_u64) _ ((epoch, slot), tag)
+well_read (PeekAns slot tag latest num body) = well (field_u32 & field_u64 & field_flag & field_u64 & field_body) _ ((((slot, tag), latest), num), body)
+well_read (Remove epoch slot tag latest num) = well (field_u32 & field_u32 & field_u64 & field_flag & field_u64) _ ((((epoch, slot), tag), latest), num)
+well_read (RemoveAns slot tag done latest num body) = well (field_u32 & field_u64 & field_flag & field_flag & field_u64 & field_body) _ (((((slot, tag), done), latest), num), body)
+well_read (SnapStart epoch id) = well (field_u32 & field_u32) _ (epoch, id)
+well_read (SnapBegun id point) = well (field_u32 & field_u64) _ (id, point)
+well_read (SnapRead epoch id slot) = well (field_u32 & field_u32 & field_u32) _ ((epoch, id), slot)
+well_read (SnapPart id slot view) = well (field_u32 & field_u32 & field_held) _ ((id, slot), view)
+well_read (Store job item) = well (field_u64 & field_rec) _ (job, item)
 well_read (Stored job) = well field_u64 _ job
 well_read (Release point) = well field_u64 _ point
 well_read (Ask round) = well field_u32 _ round
-well_read (Told round caller total item) = well (pair (pair (pair field_u32 field_u32) field_u32) field_held) _ (((round, caller), total), item)
+well_read (Told round caller total item) = well (field_u32 & field_u32 & field_u32 & field_held) _ (((round, caller), total), item)
 well_read (TopAsk round) = well field_u32 _ round
-well_read (TopIs round server top) = well (pair (pair field_u32 field_u32) field_u64) _ ((round, server), top)
+well_read (TopIs round server top) = well (field_u32 & field_u32 & field_u64) _ ((round, server), top)
 
 behind_kind : IsBehind IsFaultBehind (λ (p : Packet). (row p).kind) (λ (p : Packet). (row p).fields) fields_at
 behind_kind = record {

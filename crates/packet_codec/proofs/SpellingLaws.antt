@@ -1,5 +1,5 @@
 -- What reading a whole packet gives, in terms of spellings.
-use Rattle.std.proofs.Common.{◌≡◌, ◌≢◌, ℕ, zero, suc, ◌<◌, ◌≤◌, ◌⊎◌, Bool, true, false, cond, eqb, List, [], ◌∷◌, ◌++◌, length, drop, Result, Ok, Err, inl, inr, refl, sym, ap, subst, ◌∙◌, append-nil, arith}
+use Rattle.std.proofs.Common.{◌≡◌, ℕ, zero, suc, ◌<◌, ◌≤◌, ◌⊎◌, Bool, true, false, cond, eqb, List, [], ◌∷◌, ◌++◌, length, drop, Result, Ok, Err, inl, inr, refl, sym, ap, subst, ◌∙◌, append-nil, arith}
 use Rattle.std.specs.Prelude.{◌↔◌, IfOk, IfErr}
 use Rattle.std.proofs.lemmas.Bool.Decides.{nat_tests}
 use Rattle.std.proofs.Math.ListN.{drop_of_length-le}
@@ -7,9 +7,9 @@ use Rattle.far_base.specs.declared.packet.Packet.{Packet}
 use Rattle.packet_codec.specs.declared.fault.BadPacket.{BadPacket}
 use Rattle.packet_codec.specs.declared.fault.BadPacket.TheVariants as bad
 use Rattle.packet_codec.specs.declared.wire.TheConstants.{VERSION, KIND_COUNT}
-use Rattle.packet_codec.specs.Reading.{◌>>=◌, ◌into◌, Field, byte_at, Reads, IsFieldFault, begins_at}
+use Rattle.packet_codec.specs.Reading.{◌into◌, Field, byte_at, Reads, IsFieldFault, begins_at}
 use Rattle.packet_codec.specs.Packets.{fields_at, versioned, packet_at, whole, packet_of}
-use Rattle.packet_codec.specs.Spelling.{Part, row, spelled, Spells, Stands}
+use Rattle.packet_codec.specs.Spelling.{Part, spelled, Spells, Stands}
 use Rattle.packet_codec.specs.Faults.{HasOtherVersion, HasNoKind, IsLonger}
 use Rattle.packet_codec.proofs.Steps.{bind_ok, bind_err, ok_is, ok_err, AreBytes, AreBytes-drop, IsMore, more_is, err_of_met}
 use Rattle.packet_codec.proofs.Composition.{IsField}

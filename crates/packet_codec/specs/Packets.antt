@@ -7,6 +7,7 @@ use Rattle.packet_codec.specs.declared.fault.BadPacket.TheVariants.{Version, Kin
 use Rattle.packet_codec.specs.declared.wire.TheConstants.{VERSION}
 use Rattle.packet_codec.specs.Reading.{Field, ◌>>=◌, ◌then◌, ◌into◌, made, byte_at, u32_at, u64_at, flag_at, key_at, body_at, rec_at, held_at}
 
+-- the fields of each kind, in their order
 unfoldable pub get_req_at : Field Packet
 get_req_at = made (λ f. GetReq f.0.0 f.0.1 f.1) (u32_at then u32_at then key_at)
 
@@ -116,6 +117,7 @@ fields_at kind bytes =
     if kind == 26 then top_is_at bytes else
     Err Kind
 
+-- a kind and its fields behind this version
 abbrev pub versioned : ℕ → Field Packet
 versioned version bytes = if version == VERSION then (byte_at into fields_at) bytes else Err Version
 
@@ -123,6 +125,7 @@ versioned version bytes = if version == VERSION then (byte_at into fields_at) by
 unfoldable pub packet_at : Field Packet
 packet_at = byte_at into versioned
 
+-- nothing may stand behind a packet
 abbrev pub whole : Packet × List ℕ → Result Packet BadPacket
 whole (packet, []) = Ok packet
 whole (packet, b ∷ rest) = Err Rest

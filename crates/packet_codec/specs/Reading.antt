@@ -17,6 +17,7 @@ abbrev pub Reads : {A : Type 0} → Result A BadPacket → List ℕ → Result (
 Reads (Ok value) left read = read ≡ Ok (value, left)
 Reads (Err fault) left read = read ≡ Err fault
 
+-- goes on after a value, and ends at a fault
 infixl 10 ◌>>=◌
 abbrev pub ◌>>=◌ : {A B : Type 0} → Result A BadPacket → (A → Result B BadPacket) → Result B BadPacket
 (Ok x) >>= f = f x
@@ -40,10 +41,12 @@ made f field bytes = field bytes >>= λ a. Ok (f a.0, a.1)
 abbrev pub taken_at : ℕ → Field (List ℕ)
 taken_at n bytes = if nat_lt (length bytes) n then Err Short else Ok (take n bytes, drop n bytes)
 
+-- one byte
 abbrev pub byte_at : Field ℕ
 byte_at [] = Err Short
 byte_at (b ∷ rest) = Ok (b, rest)
 
+-- numbers, the highest byte first
 unfoldable pub u16_at : Field ℕ
 u16_at = made (from_be_bytes w16) (taken_at 2)
 
@@ -53,18 +56,21 @@ u32_at = made (from_be_bytes w32) (taken_at 4)
 unfoldable pub u64_at : Field ℕ
 u64_at = made (from_be_bytes w64) (taken_at 8)
 
+-- the flag that a byte is
 abbrev pub flag_of : ℕ → Field Bool
 flag_of zero rest = Ok (false, rest)
 flag_of (suc zero) rest = Ok (true, rest)
 flag_of (suc (suc b)) rest = Err Flag
 
--- 0 or 1
+-- a byte that is 0 or 1
 unfoldable pub flag_at : Field Bool
 flag_at = byte_at into flag_of
 
+-- the key that sixteen bytes are
 abbrev pub key_of : List ℕ → Field (List ℕ)
 key_of key rest = if is_key key then Ok (key, rest) else Err Pad
 
+-- sixteen bytes that are a key
 unfoldable pub key_at : Field (List ℕ)
 key_at = taken_at KEY_LENGTH into key_of
 
@@ -77,6 +83,7 @@ limit_of false = 0
 abbrev pub text_at : ℕ → Field (Option (List ℕ))
 text_at len = made Some (taken_at len)
 
+-- the bytes behind this flag, with a length that it allows
 abbrev pub shown_at : Bool → ℕ → Field (Option (List ℕ))
 shown_at true len bytes = text_at len bytes
 shown_at false len bytes = Ok (None, bytes)
@@ -89,16 +96,20 @@ text_behind head bytes = if nat_lt (limit_of head.0) head.1 then Err Length else
 unfoldable pub body_at : Field (Option (List ℕ))
 body_at = flag_at then u16_at into text_behind
 
+-- the record of these fields
 abbrev pub record_of : (List ℕ × ℕ) × Option (List ℕ) → Record
 record_of f = record { key = f.0.0; num = f.0.1; body = f.1 }
 
+-- a key, the number of its write, and a body
 unfoldable pub rec_at : Field Record
 rec_at = made record_of (key_at then u64_at then body_at)
 
+-- the record behind this flag
 abbrev pub rec_behind : Bool → Field (Option Record)
 rec_behind true bytes = made Some rec_at bytes
 rec_behind false bytes = Ok (None, bytes)
 
+-- a flag, and a record where it is set
 unfoldable pub held_at : Field (Option Record)
 held_at = flag_at into rec_behind
 

@@ -14,10 +14,12 @@ pub record Part : Type 1 where
   pub bytes : List ℕ
   pub in_range : Type 0
 
+-- one part, and then the other
 infixl 10 ◌and◌
 abbrev pub ◌and◌ : Part → Part → Part
 a and b = record { bytes = a.bytes ++ b.bytes; in_range = a.in_range × b.in_range }
 
+-- numbers, the highest byte first
 unfoldable pub u16_part : ℕ → Part
 u16_part n = record { bytes = to_be_bytes w16 n; in_range = n < 2 ^ 16 }
 
@@ -27,17 +29,20 @@ u32_part n = record { bytes = to_be_bytes w32 n; in_range = n < 2 ^ 32 }
 unfoldable pub u64_part : ℕ → Part
 u64_part n = record { bytes = to_be_bytes w64 n; in_range = n < 2 ^ 64 }
 
+-- 1 where it is set
 abbrev pub flag_byte : Bool → ℕ
 flag_byte true = 1
 flag_byte false = 0
 
+-- one byte
 unfoldable pub flag_part : Bool → Part
 flag_part flag = record { bytes = flag_byte flag ∷ []; in_range = Unit {0} }
 
--- sixteen bytes
+-- the sixteen bytes of a key
 unfoldable pub key_part : List ℕ → Part
 key_part key = record { bytes = key; in_range = IsTrue (is_key key) }
 
+-- the bytes of a body, none where it is absent
 abbrev pub text_part : Option (List ℕ) → Part
 text_part body = record { bytes = text_of body; in_range = length (text_of body) ≤ BODY_LIMIT }
 
@@ -45,9 +50,11 @@ text_part body = record { bytes = text_of body; in_range = length (text_of body)
 unfoldable pub body_part : Option (List ℕ) → Part
 body_part body = flag_part (is_there body) and u16_part (length_of body) and text_part body
 
+-- a key, the number of its write, and a body
 unfoldable pub rec_part : Record → Part
 rec_part rec = key_part rec.key and u64_part rec.num and body_part rec.body
 
+-- the record, and nothing where there is none
 abbrev pub inner_part : Option Record → Part
 inner_part None = record { bytes = []; in_range = Unit {0} }
 inner_part (Some rec) = rec_part rec
@@ -66,6 +73,7 @@ pub record Row : Type 1 where
   pub kind : ℕ
   pub fields : Part
 
+-- a kind of this number
 abbrev pub numbered : ℕ → Part → Row
 numbered kind fields = record { kind = kind; fields = fields }
 
@@ -102,6 +110,7 @@ row (TopIs round server top) = numbered 26 (u32_part round and u32_part server a
 abbrev pub spelled : Packet → Part
 spelled packet = record { bytes = VERSION ∷ (row packet).kind ∷ (row packet).fields.bytes; in_range = (row packet).fields.in_range }
 
+-- the bytes are the one spelling of the packet
 pub record Spells (bytes : List ℕ) (packet : Packet) : Type 0 where
   pub same : bytes ≡ (spelled packet).bytes
   pub in_range : (spelled packet).in_range

@@ -46,7 +46,7 @@ fn put_at(out: &mut [u8], at: usize, text: &[u8])
 
 impl Wire {
     /// No bytes.
-    pub fn new() -> Self
+    pub(crate) fn new() -> Self
         ensures { result ≡ [] }
     {
         Wire {
@@ -64,7 +64,7 @@ impl Wire {
     }
 
     /// Adds the text at the end.
-    pub fn push(&mut self, text: &[u8])
+    pub(crate) fn push(&mut self, text: &[u8])
         requires { length self.old + length text.now ≤ WIRE_SIZE }
         ensures { self.new ≡ self.old ++ text.now }
     {

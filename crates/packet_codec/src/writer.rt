@@ -9,7 +9,7 @@ use far_base::{Body, Key, Record};
 
 impl Wire {
     /// The version and the number of a kind.
-    pub fn begin(&mut self, kind: u8)
+    pub(crate) fn begin(&mut self, kind: u8)
         requires { self.old ≡ [] }
         ensures { self.new ≡ VERSION ∷ kind ∷ [] }
     {
@@ -29,7 +29,7 @@ impl Wire {
 
     /// A number of four bytes.
     #[tactic(auto, unfolding(crate::specs::Spelling::u32_part))]
-    pub fn u32(&mut self, n: u32)
+    pub(crate) fn u32(&mut self, n: u32)
         requires { length self.old + 4 ≤ WIRE_SIZE }
         ensures added { Adds self.old self.new (u32_part n) }
         ensures len { length self.new ≡ length self.old + 4 }
@@ -41,7 +41,7 @@ impl Wire {
 
     /// A number of eight bytes.
     #[tactic(auto, unfolding(crate::specs::Spelling::u64_part))]
-    pub fn u64(&mut self, n: u64)
+    pub(crate) fn u64(&mut self, n: u64)
         requires { length self.old + 8 ≤ WIRE_SIZE }
         ensures added { Adds self.old self.new (u64_part n) }
         ensures len { length self.new ≡ length self.old + 8 }
@@ -53,7 +53,7 @@ impl Wire {
 
     /// A byte that is 0 or 1.
     #[tactic(auto, unfolding(crate::specs::Spelling::flag_part))]
-    pub fn flag(&mut self, flag: bool)
+    pub(crate) fn flag(&mut self, flag: bool)
         requires { length self.old + 1 ≤ WIRE_SIZE }
         ensures added { Adds self.old self.new (flag_part flag) }
         ensures len { length self.new ≡ length self.old + 1 }
@@ -63,7 +63,7 @@ impl Wire {
 
     /// The sixteen bytes of a key.
     #[tactic(auto, unfolding(crate::specs::Spelling::key_part))]
-    pub fn key(&mut self, key: &Key)
+    pub(crate) fn key(&mut self, key: &Key)
         requires { length self.old + 16 ≤ WIRE_SIZE }
         ensures added { Adds self.old self.new (key_part key.now) }
         ensures len { length self.new ≡ length self.old + 16 }
@@ -73,7 +73,7 @@ impl Wire {
 
     /// A flag, the length and the bytes.
     #[tactic(auto, unfolding(crate::specs::Spelling::body_part))]
-    pub fn body(&mut self, body: &Body)
+    pub(crate) fn body(&mut self, body: &Body)
         requires { length self.old + (3 + BODY_LIMIT) ≤ WIRE_SIZE }
         ensures added { Adds self.old self.new (body_part body.now) }
         ensures len { length self.new ≤ length self.old + (3 + BODY_LIMIT) }
@@ -85,7 +85,7 @@ impl Wire {
 
     /// A key, the number of its write, and a body.
     #[tactic(auto, unfolding(crate::specs::Spelling::rec_part))]
-    pub fn rec(&mut self, rec: &Record)
+    pub(crate) fn rec(&mut self, rec: &Record)
         requires { length self.old + (27 + BODY_LIMIT) ≤ WIRE_SIZE }
         ensures added { Adds self.old self.new (rec_part rec.now) }
         ensures len { length self.new ≤ length self.old + (27 + BODY_LIMIT) }
@@ -97,7 +97,7 @@ impl Wire {
 
     /// A flag, and behind the flag 1 a record.
     #[tactic(auto, unfolding(crate::specs::Spelling::held_part))]
-    pub fn held(&mut self, held: &Option<Record>)
+    pub(crate) fn held(&mut self, held: &Option<Record>)
         requires { length self.old + (28 + BODY_LIMIT) ≤ WIRE_SIZE }
         ensures added { Adds self.old self.new (held_part held.now) }
         ensures len { length self.new ≤ length self.old + (28 + BODY_LIMIT) }

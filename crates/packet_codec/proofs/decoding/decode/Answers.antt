@@ -1,5 +1,4 @@
-use Rattle.std.proofs.Common.{◌∙◌, ap, arith}
-use Rattle.packet_codec.specs.Packets.{packet_of}
+use Rattle.std.proofs.Common.{◌∙◌, arith}
 use Rattle.packet_codec.proofs.SpellingLaws.{found_by, packet_only, packet_cut, version_exactly, kind_exactly, rest_exactly}
 use Rattle.packet_codec.proofs.decoding.decode.Goals as goal
 
