@@ -1,7 +1,7 @@
 -- What a server's map finds and keeps is what the list of its records does.
-use Rattle.std.proofs.Common.{◌≡◌, ℕ, Bool, true, false, eqb, List, [], ◌∷◌, map, refl, sym, ap, ◌∙◌, Some, None, Option, arith}
+use Rattle.std.proofs.Common.{◌≡◌, ℕ, Bool, true, false, eqb, List, [], ◌∷◌, map, refl, sym, ap, Some, None, Option, arith}
 use Rattle.std.specs.Map.{lookup}
-use Rattle.std.specs.Cmp.Lexicographic.{pointwise, same_text}
+use Rattle.std.specs.Cmp.Lexicographic.{same_text}
 use Rattle.std.specs.Prelude.{if◌then◌else◌, cond}
 use Rattle.indexmap.specs.IndexMap.{insert_entry}
 use Rattle.far_base.specs.declared.record.Record.{Record}

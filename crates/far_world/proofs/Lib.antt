@@ -1,4 +1,3 @@
-mod Cold
 mod Delivering
 mod Entries
 mod Histories

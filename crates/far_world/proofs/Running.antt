@@ -1,10 +1,9 @@
 -- A world is the run of its plan and its events: at the start, and after one more event.
-use Rattle.std.proofs.Common.{◌≡◌, ℕ, zero, suc, ◌+◌, ◌<◌, ◌≤◌, ◌⊎◌, inl, inr, Bool, true, false, List, [], ◌∷◌, ◌++◌, length, get_or, replicate, refl, sym, ap, ◌∙◌, subst, cond, Option, Some, None, arith, length-append}
-use Rattle.std.specs.Prelude.{slice_get, nat_eq}
+use Rattle.std.proofs.Common.{◌≡◌, ℕ, zero, suc, ◌+◌, ◌<◌, ◌≤◌, inl, inr, Bool, true, false, List, [], ◌∷◌, ◌++◌, length, get_or, replicate, refl, sym, ap, ◌∙◌, subst, cond, arith, length-append}
+use Rattle.std.specs.Prelude.{nat_eq}
 use Rattle.far_base.specs.PlanView.{PlanView}
 use Rattle.far_base.specs.declared.event.Event.{Event}
 use Rattle.far_base.specs.declared.event.Event.TheVariants.{Send, Deliver, Tick, Recover, Restart, Order}
-use Rattle.far_base.specs.declared.log.LogLine.{LogLine}
 use Rattle.far_base.specs.declared.packet.Message.{Message}
 use Rattle.far_base.specs.declared.plan.OpLine.{OpLine}
 use Rattle.far_base.specs.declared.record.Record.{Record}
@@ -13,7 +12,7 @@ use Rattle.far_model.specs.Clients.{ClientState, script_from}
 use Rattle.far_model.specs.Events.{happens, is_enabled}
 use Rattle.far_model.specs.Members.{Among}
 use Rattle.far_model.specs.Runs.{IsRun, run}
-use Rattle.far_model.specs.State.{State, opening, clients_from, client_at, nobody}
+use Rattle.far_model.specs.State.{State, opening, clients_from, nobody}
 use Rattle.far_model.specs.Uncached.{IsUncachedPlan}
 use Rattle.far_world.proofs.Lists.{slice_get_there}
 use Rattle.far_world.specs.WorldView.{CanHappen, IsOperation, IsRunOf, KnowsOperations, state_of}

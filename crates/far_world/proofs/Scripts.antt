@@ -1,13 +1,12 @@
 -- Laws of what clients have to send.
-use Rattle.std.proofs.Common.{◌≡◌, ℕ, zero, suc, ◌+◌, ◌<◌, ◌⊎◌, inl, inr, Bool, true, false, List, [], ◌∷◌, ◌++◌, length, get_or, drop, set, refl, sym, ap, ◌∙◌, subst, ◌≢◌, Option, Some, None, arith, drop-cons}
+use Rattle.std.proofs.Common.{◌≡◌, ℕ, zero, suc, ◌+◌, ◌<◌, ◌⊎◌, inl, inr, false, List, [], ◌∷◌, ◌++◌, length, get_or, drop, set, refl, ap, ◌∙◌, subst, ◌≢◌, Option, Some, None, arith, drop-cons}
 use Rattle.std.proofs.lemmas.List.{get_or-set_same, get_or-set_other}
 use Rattle.std.proofs.lemmas.Bool.{cases_eq}
 use Rattle.std.specs.Prelude.{nat_lt, nat_le, nat_eq, is_some, not, ◌&&◌, if◌then◌else◌}
 use Rattle.far_base.specs.declared.plan.OpLine.{OpLine}
 use Rattle.far_model.specs.Clients.{ClientState, script_from, opening_client}
-use Rattle.far_model.specs.Events.{has_next, can_send, next_sent}
+use Rattle.far_model.specs.Events.{has_next, next_sent}
 use Rattle.far_model.specs.Members.{Among}
-use Rattle.far_model.specs.Runs.{is_done}
 use Rattle.far_model.specs.State.{clients_from, nobody}
 use Rattle.far_world.specs.WorldView.{IsOperation}
 use Rattle.far_world.proofs.Lists.{get_or_any}

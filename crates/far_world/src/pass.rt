@@ -52,6 +52,7 @@ pub(crate) fn pass(config: &Config, counter: u64, packet: &Packet) -> Passed
     ensures passed { model.pass (view.opening_view config.now 1 counter) packet.now ≡ record { view = view.opening_view config.now 1 result.counter; first = Some result.out; second = None } }
     ensures notes { option_to_list result.note ≡ model.pass_notes packet.now (model.pass (view.opening_view config.now 1 counter) packet.now) }
 {
+    flight_laws::uncached_passes();
     match *packet {
         Packet::GetReq { caller, op, key } => Passed {
             counter,

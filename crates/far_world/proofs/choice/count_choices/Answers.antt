@@ -1,4 +1,4 @@
-use Rattle.std.proofs.Common.{◌≡◌, sym}
+use Rattle.std.proofs.Common.{sym}
 use Rattle.far_world.proofs.Picking.{length_possible}
 use Rattle.far_world.proofs.choice.count_choices.Goals as goal
 

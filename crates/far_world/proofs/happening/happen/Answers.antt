@@ -1,4 +1,4 @@
-use Rattle.std.proofs.Common.{◌≡◌, ℕ, List, ap, sym, ◌∙◌, subst, arith}
+use Rattle.std.proofs.Common.{ℕ, List, ap, subst}
 use Rattle.far_base.specs.PlanView.{PlanView}
 use Rattle.far_model.specs.Clients.{ClientState}
 use Rattle.far_model.specs.Members.{Among}

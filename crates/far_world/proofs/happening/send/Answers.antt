@@ -1,4 +1,4 @@
-use Rattle.std.proofs.Common.{◌≡◌, ℕ, ◌-◌, inl, refl, sym, ◌∙◌, arith, get_or}
+use Rattle.std.proofs.Common.{◌≡◌, ◌-◌, inl, refl, sym, ◌∙◌, arith}
 use Rattle.far_model.specs.Clients.{line_of, no_line}
 use Rattle.far_world.proofs.Lists.{get_or_any}
 use Rattle.far_world.proofs.happening.send.Goals as goal

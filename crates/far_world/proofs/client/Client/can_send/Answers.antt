@@ -1,4 +1,4 @@
-use Rattle.std.proofs.Common.{◌≡◌, ap, ◌∙◌, not}
+use Rattle.std.proofs.Common.{ap, ◌∙◌, not}
 use Rattle.far_world.proofs.Scripts.{can_send_is}
 use Rattle.far_world.proofs.client.Client.can_send.Goals as goal
 

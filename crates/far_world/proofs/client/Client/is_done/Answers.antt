@@ -1,4 +1,4 @@
-use Rattle.std.proofs.Common.{◌≡◌, ap, ◌∙◌, not}
+use Rattle.std.proofs.Common.{ap, ◌∙◌, not}
 use Rattle.far_world.proofs.Scripts.{is_done_is}
 use Rattle.far_world.proofs.client.Client.is_done.Goals as goal
 

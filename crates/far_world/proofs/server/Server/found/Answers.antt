@@ -1,4 +1,4 @@
-use Rattle.std.proofs.Common.{◌≡◌, List, ℕ, sym, ap, ◌∙◌}
+use Rattle.std.proofs.Common.{List, sym, ap, ◌∙◌}
 use Rattle.far_base.specs.declared.record.Record.{Record}
 use Rattle.far_model.specs.KeyedRecords as keyed
 use Rattle.far_world.proofs.Entries.{found_is, held_or_nothing}

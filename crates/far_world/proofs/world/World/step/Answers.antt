@@ -1,4 +1,4 @@
-use Rattle.std.proofs.Common.{◌≡◌, ℕ, suc, ◌+◌, ◌≤◌, true, ◌++◌, length, take, drop, refl, sym, ap, ◌∙◌, subst}
+use Rattle.std.proofs.Common.{◌≡◌, ℕ, suc, ◌+◌, ◌≤◌, true, ◌++◌, length, take, drop, sym, ap, ◌∙◌, subst}
 use Rattle.far_model.specs.Events.{happens, is_enabled}
 use Rattle.far_model.specs.State.{State}
 use Rattle.far_model.specs.Uncached.{IsUncached}
