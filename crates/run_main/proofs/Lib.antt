@@ -1,5 +1,6 @@
 mod Picks
 mod Replays
+mod Written
 pub mod BaseLaws
 pub mod Fields
 pub mod Loops

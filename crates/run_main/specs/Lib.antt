@@ -1,5 +1,6 @@
 pub mod Number
 pub mod BaseForm
 pub mod Reading
+pub mod Saying
 pub mod Status
 pub mod Top

@@ -68,7 +68,15 @@ WroteTold words (Some input) None now status = Unit {0}
 WroteTold words (Some input) (Some before) None status = ⊥
 WroteTold words (Some input) (Some before) (Some now) status = Wrote words input before now status
 
--- a report is written only after all that the source had left was read
-abbrev pub ReadToEnd : Option (List ℕ) → Option (List ℕ) → Status → Type 0
-ReadToEnd (Some input) now Done = now ≡ Some []
-ReadToEnd _ now status = Unit {0}
+-- all that the source had left was read
+abbrev pub ReadToEnd : Option (List ℕ) → Option (List ℕ) → Type 0
+ReadToEnd None now = Unit {0}
+ReadToEnd (Some input) now = now ≡ Some []
+
+abbrev pub IsOrMemory : Status → Status → Type 0
+IsOrMemory due status = (status ≡ due) ⊎ (status ≡ Memory)
+
+-- a workload of the base form that is not too large is replayed, and any other input is not built
+pub record IsDecided (input : List ℕ) (status : Status) : Type 0 where
+  pub base : (w : WorkView) → IsBaseForm input w → length input ≤ INPUT_LIMIT → IsOrMemory Done status
+  pub other : IsNotBuilt input → IsOrMemory NotBuilt status

@@ -21,24 +21,33 @@ enum Stop {
     NotBuilt,
 }
 
-ghost use Rattle.std.specs.Prelude.{◌≡◌, ◌≤◌, ◌↔◌, ◌⊎◌, IsTrue, IfOk, IfSome, OnErr, IsErrOf, map, length, string_bytes};
+ghost use Rattle.std.specs.Prelude.{◌≡◌, ◌≤◌, ◌↔◌, ◌⊎◌, IsTrue, IfOk, IfSome, IsErrOf, codes, map, length, string_bytes};
 ghost use Rattle.far_outside.specs.Faults.{Rose};
-ghost use Rattle.far_outside.specs.Reading.{IsFurther};
-ghost use Rattle.run_main.specs.BaseForm.{WorkView, IsBaseForm};
-ghost use Rattle.run_main.specs.Top.{IsReplay, IsReplayOf, IsNotBuilt, ReadsThrough, Says, WroteTold, ReadToEnd, SettlesReplay, usage_line, not_built_line};
+ghost use Rattle.far_outside.specs.Reading.{HasReadAll, HadMore};
+ghost use Rattle.run_main.specs.Top.{IsReplay, IsReplayOf, IsNotBuilt, WroteTold, ReadToEnd, IsOrMemory, IsDecided};
+ghost use Rattle.run_main.specs.Saying.{IsSaid, Says, SettlesText, SettlesReplay};
+
+fn is_word(word: &str) -> bool
+    ensures { IsTrue result ↔ (word.now ≡ codes "replay") }
+{
+    word == "replay"
+}
 
 fn is_replay(words: &[String]) -> bool
     ensures { IsTrue result ↔ IsReplay (map string_bytes words.now) }
 {
-    matches!(words, [word] if word.as_str() == "replay")
+    match words {
+        [word] => is_word(word.as_str()),
+        _ => false,
+    }
 }
 
 /// Writes the text, in one call, and answers the status that goes with it.
 fn say<D: Sink>(sink: &mut D, text: &[u8], status: Status) -> Status
+    requires { IsSaid status }
     ensures said { Says (D.written sink.old) (D.written sink.new) text.now status result }
     ensures cause { result ≡ Status.WriteFault → Rose (D.fault_count sink.old) (D.fault_count sink.new) }
     ensures settled { ¬ Rose (D.fault_count sink.old) (D.fault_count sink.new) → (result ≡ status) ⊎ (result ≡ Status.Memory) }
-    requires { status ≢ Status.WriteFault }
 {
     match sink.write(text) {
         Ok(()) => status,
@@ -46,9 +55,37 @@ fn say<D: Sink>(sink: &mut D, text: &[u8], status: Status) -> Status
         Err(SinkFault::Failed) => Status::WriteFault,
     }
 }
-fn replayed<S: Source>(alloc: Global, source: &mut S) -> Result<Vec<u8>, Stop> {
-    let text = read_all(alloc, source, INPUT_LIMIT)?;
-    Ok(replay(alloc, &text)?)
+/// The text that was read, to its end.
+fn read_text<S: Source>(alloc: Global, source: &mut S) -> Result<Vec<u8>, Stop>
+    ensures whole { IfOk result (λ bytes. HasReadAll (S.left source.old) (S.left source.new) bytes.items) }
+    ensures short { IfOk result (λ bytes. length bytes.items ≤ INPUT_LIMIT) }
+    ensures large { IsErrOf result Stop.NotBuilt → HadMore (S.left source.old) INPUT_LIMIT }
+    ensures later { S.fault_count source.old ≤ S.fault_count source.new }
+    ensures cause { IsErrOf result Stop.Read → Rose (S.fault_count source.old) (S.fault_count source.new) }
+    ensures settled { ¬ Rose (S.fault_count source.old) (S.fault_count source.new) → IfSome (S.left source.old) (λ input. SettlesText input result) }
+{
+    match read_all(alloc, source, INPUT_LIMIT) {
+        Ok(bytes) => Ok(bytes),
+        Err(ReadStop::Memory) => Err(Stop::Memory),
+        Err(ReadStop::TooLarge) => Err(Stop::NotBuilt),
+        Err(ReadStop::Failed) => Err(Stop::Read),
+    }
+}
+
+/// The report of the run of the workload that the source has.
+fn replayed<S: Source>(alloc: Global, source: &mut S) -> Result<Vec<u8>, Stop>
+    ensures done { IfOk result (λ report. IfSome (S.left source.old) (λ input. IsReplayOf input report.items)) }
+    ensures end { IfOk result (λ report. ReadToEnd (S.left source.old) (S.left source.new)) }
+    ensures not_built { IsErrOf result Stop.NotBuilt → IfSome (S.left source.old) IsNotBuilt }
+    ensures cause { IsErrOf result Stop.Read → Rose (S.fault_count source.old) (S.fault_count source.new) }
+    ensures settled { ¬ Rose (S.fault_count source.old) (S.fault_count source.new) → IfSome (S.left source.old) (λ input. SettlesReplay input result) }
+{
+    let text = read_text(alloc, source)?;
+    match replay(alloc, &text) {
+        Ok(report) => Ok(report),
+        Err(BaseFault::Memory) => Err(Stop::Memory),
+        Err(BaseFault::NotBase) => Err(Stop::NotBuilt),
+    }
 }
 
 /// Does what the words say: `replay` reads a workload of the base form to its end, runs it by its
@@ -63,7 +100,21 @@ pub fn top_calm<S: Source, D: Sink>(
     words: &[String],
     source: &mut S,
     sink: &mut D,
-) -> Status {
+) -> Status
+    // Each answer has its cause.
+    ensures usage { result ≡ Status.Usage → ¬ (IsReplay (map string_bytes words.now)) }
+    ensures not_built { result ≡ Status.NotBuilt → IsReplay (map string_bytes words.now) × IfSome (S.left source.old) IsNotBuilt }
+    ensures read_fault { result ≡ Status.ReadFault → Rose (S.fault_count source.old) (S.fault_count source.new) }
+    ensures write_fault { result ≡ Status.WriteFault → Rose (D.fault_count sink.old) (D.fault_count sink.new) }
+
+    // What is written is what was due, and a report comes only after all was read.
+    ensures written { WroteTold (map string_bytes words.now) (S.left source.old) (D.written sink.old) (D.written sink.new) result }
+    ensures end { result ≡ Status.Done → ReadToEnd (S.left source.old) (S.left source.new) }
+
+    // Where no count rose the answer is the one that is due, unless memory was refused.
+    ensures other_words { ¬ (IsReplay (map string_bytes words.now)) → ¬ Rose (D.fault_count sink.old) (D.fault_count sink.new) → IsOrMemory Status.Usage result }
+    ensures complete { IsReplay (map string_bytes words.now) → ¬ Rose (S.fault_count source.old) (S.fault_count source.new) → ¬ Rose (D.fault_count sink.old) (D.fault_count sink.new) → IfSome (S.left source.old) (λ input. IsDecided input result) }
+{
     if !is_replay(words) {
         return say(sink, USAGE, Status::Usage);
     }

@@ -1,0 +1,6 @@
+//! Worked rows: what the top call writes for workloads whose reports were computed by hand, and what it answers
+//! where a read or a write fails.
+#![tactic(auto)]
+
+#[cfg(test)]
+mod tests;

@@ -1,0 +1,94 @@
+use far_outside::{CleanSink, CleanSource, Failed, MemSink, MemSource, Source};
+use run_main::{Status, top_calm};
+use std::alloc::Global;
+use std::test::Fail;
+
+/// Words, input, what is written, and the status.
+const ROWS: [(&str, &str, &str, Status); 7] = [
+    (
+        "replay",
+        "far 1\nclients 1\nservers 1\nslots 1\nhot 0\n",
+        "far 1 report\nsteps 0\nhistory 0\ncontrol 0\nmap 0\nend\n",
+        Status::Done,
+    ),
+    (
+        "replay",
+        "far 1\nclients 1\nservers 1\nslots 1\nhot 0\nput 0 a =x\nget 0 a\n",
+        "far 1 report\nsteps 10\nhistory 2\n1 0 put a 1 =x server 1 5\n2 0 get a 1 =x server 6 10\ncontrol 0\nmap 1\na 1 =x\nend\n",
+        Status::Done,
+    ),
+    (
+        "replay",
+        "far 1\nclients 1\nservers 1\nslots 1\nhot 0\nget 0 a\n",
+        "far 1 report\nsteps 5\nhistory 1\n1 0 get a 0 - server 1 5\ncontrol 0\nmap 0\nend\n",
+        Status::Done,
+    ),
+    (
+        "replay",
+        "far 1\nclients 2\nservers 1\nslots 1\nhot 0\nput 0 a =x\nput 1 a =y\npicks 0 0 0 0 1 1 1\n",
+        "far 1 report\nsteps 10\nhistory 2\n1 0 put a 1 =x server 1 10\n2 1 put a 2 =y server 2 7\ncontrol 0\nmap 1\na 2 =y\nend\n",
+        Status::Done,
+    ),
+    (
+        "replay",
+        "far 1\nclients 1\n",
+        "not built\n",
+        Status::NotBuilt,
+    ),
+    ("replay", "", "not built\n", Status::NotBuilt),
+    (
+        "run",
+        "far 1\nclients 1\nservers 1\nslots 1\nhot 0\n",
+        "usage: far replay, run, image, recover, or bulk START OPS\n",
+        Status::Usage,
+    ),
+];
+
+fn words_of(alloc: Global, word: &str) -> Result<Vec<String>, Fail> {
+    let mut words = Vec::new(alloc);
+    words.push(String::from_str(alloc, word)?)?;
+    Ok(words)
+}
+
+#[test]
+fn rows_are_written_as_computed(rt: HostRuntime) -> Result<(), Fail> {
+    let alloc = rt.alloc();
+    for (word, input, output, status) in ROWS {
+        let words = words_of(alloc, word)?;
+        let mut source = CleanSource::new(input.as_bytes().to_vec(alloc)?);
+        let mut sink = CleanSink::new(alloc);
+        assert_eq!(rt; top_calm(alloc, &words, &mut source, &mut sink), status);
+        assert!(rt; sink.bytes() == output.as_bytes());
+    }
+    Ok(())
+}
+
+#[test]
+fn a_failed_call_is_the_answer(rt: HostRuntime) -> Result<(), Fail> {
+    let alloc = rt.alloc();
+    let words = words_of(alloc, "replay")?;
+    let input = ROWS[1].1.as_bytes();
+    let mut source = MemSource::new(input.to_vec(alloc)?, [1].to_vec(alloc)?);
+    let mut sink = MemSink::new(alloc, Vec::new(alloc));
+    assert_eq!(rt;
+        top_calm(alloc, &words, &mut source, &mut sink),
+        Status::ReadFault
+    );
+    assert!(rt; sink.bytes().is_empty());
+
+    // The end of the input is seen by the second call.
+    let mut source = MemSource::new(input.to_vec(alloc)?, [2].to_vec(alloc)?);
+    assert_eq!(rt;
+        top_calm(alloc, &words, &mut source, &mut sink),
+        Status::ReadFault
+    );
+    assert!(rt; sink.bytes().is_empty());
+
+    let mut source = MemSource::new(input.to_vec(alloc)?, Vec::new(alloc));
+    let mut sink = MemSink::new(alloc, [1].to_vec(alloc)?);
+    assert_eq!(rt;
+        top_calm(alloc, &words, &mut source, &mut sink),
+        Status::WriteFault
+    );
+    Ok(())
+}
