@@ -1,12 +1,10 @@
 //! The program: the standard input and output around the top call.
 #![tactic(auto)]
 
-use std::env;
-use std::io;
-use std::process::ExitCode;
-
 use far_outside::{StdSink, StdSource};
 use run_main::{Status, top_calm};
+use std::process::ExitCode;
+use std::{env, io};
 
 fn words_of(rt: &HostRuntime) -> Result<Vec<String>, io::Error> {
     let mut words = Vec::new(rt.alloc());

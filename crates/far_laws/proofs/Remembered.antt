@@ -14,15 +14,15 @@ module _ {X : Type 0} (made_by : State → Event → List X) (kept : Past → Li
   pub remembered_from : (plan : PlanView) (s : State) (p : Past) (events : List Event) (x : X) → Among x (kept (past_from plan s p events)) → Among x (kept p) ⊎ WasMadeBy made_by plan s events x
   remembered_from plan s p [] x h = inl h
   remembered_from plan s p (e ∷ es) x h = elim (remembered_from plan (happens plan s e) (remembers s p e) es x h) [
-      | inl old ↦ elim (among_append x (kept p) (made_by s e) (subst (λ (l : List X). Among x l) (grows s p e) old)) [
-          | inl before ↦ inl before
-          | inr here ↦ inr (record { earlier = []; event = e; later = es; split = refl; made = here })
-        ]
-      | inr m ↦ inr (record { earlier = e ∷ m.earlier; event = m.event; later = m.later; split = ap (λ (l : List Event). e ∷ l) m.split; made = m.made })
+    | inl old ↦ elim (among_append x (kept p) (made_by s e) (subst (λ (l : List X). Among x l) (grows s p e) old)) [
+      | inl before ↦ inl before
+      | inr here ↦ inr (record { earlier = []; event = e; later = es; split = refl; made = here })
     ]
+    | inr m ↦ inr (record { earlier = e ∷ m.earlier; event = m.event; later = m.later; split = ap (λ (l : List Event). e ∷ l) m.split; made = m.made })
+  ]
 
   pub remembered : (plan : PlanView) (events : List Event) (x : X) → kept no_past ≡ [] → Among x (kept (past_of plan events)) → WasMadeBy made_by plan (opening plan) events x
   remembered plan events x none h = elim (remembered_from plan (opening plan) no_past events x h) [
-      | inl old ↦ absurd (subst (λ (l : List X). Among x l) none old)
-      | inr m ↦ m
-    ]
+    | inl old ↦ absurd (subst (λ (l : List X). Among x l) none old)
+    | inr m ↦ m
+  ]

@@ -23,7 +23,6 @@ use Rattle.far_base.specs.declared.plan.Order.TheVariants.{Admit as AdmitOrder, 
 use Rattle.far_base.specs.declared.record.Record.{Record}
 use Rattle.far_model.proofs.Members.{among_append_left, among_append_right}
 use Rattle.flight_laws.proofs.WithoutCache.{client_within}
-
 use Rattle.far_model.specs.Answered.{HasBeenSent, AreSentOrLeft}
 use Rattle.far_model.specs.Clients.{ClientState, line_of, no_line, closed, preserves, answered_record, request, client_takes, script_from, opening_client}
 use Rattle.far_model.specs.Controller.{ControllerState, tick, ready, wanted, evict_key, start_snapshot, start_recovery}
@@ -43,9 +42,9 @@ lasts_same s = record { left = λ c. refl; member = λ l h. h }
 
 still : (plan : PlanView) (s t : State) → Lasts s t → AreSentOrLeft plan s → AreSentOrLeft plan t
 still plan s t lasts h op above within = elim (h op above within) [
-    | inl a ↦ inl (subst (λ (xs : List ℕ). Among op xs) (sym (lasts.left (line_of plan.ops op).client)) a)
-    | inr b ↦ inr (record { at = b.at; sent = lasts.member _ b.sent })
-  ]
+  | inl a ↦ inl (subst (λ (xs : List ℕ). Among op xs) (sym (lasts.left (line_of plan.ops op).client)) a)
+  | inr b ↦ inr (record { at = b.at; sent = lasts.member _ b.sent })
+]
 
 kept_by : {A B : Type 0} → (f : A → B) (xs : List A) (i j : ℕ) (x d : A) → f x ≡ f (slice_index_or xs i d) → f (slice_index_or (slice_set xs i x) j d) ≡ f (slice_index_or xs j d)
 kept_by f [] i j x d e = refl
@@ -113,9 +112,9 @@ SentOrLeft plan s op = Among op (client_at s (line_of plan.ops op).client).left 
 sent_here : (plan : PlanView) (s : State) (c next : ℕ) (left : List ℕ) (op : ℕ) → (client_at s c).left ≡ next ∷ left → c < length s.clients → (line_of plan.ops op).client ≡ c
     → Among op (client_at s (line_of plan.ops op).client).left → SentOrLeft plan (after plan s c next left) op
 sent_here plan s c next left op is within e a = elim (subst (λ (xs : List ℕ). Among op xs) (ap (λ n. (client_at s n).left) e ∙ is) a) [
-    | inl same ↦ inr (record { at = now s; sent = among_append_right _ s.log _ (inl (ap (λ n. line_at (now s) (Sent n (line_of plan.ops n))) same)) })
-    | inr later ↦ inl (subst (λ (xs : List ℕ). Among op xs) (sym (ap (λ n. (client_at (after plan s c next left) n).left) e ∙ left_here s c (next_sent plan.ops c (client_at s c) (next ∷ left)) within)) later)
-  ]
+  | inl same ↦ inr (record { at = now s; sent = among_append_right _ s.log _ (inl (ap (λ n. line_at (now s) (Sent n (line_of plan.ops n))) same)) })
+  | inr later ↦ inl (subst (λ (xs : List ℕ). Among op xs) (sym (ap (λ n. (client_at (after plan s c next left) n).left) e ∙ left_here s c (next_sent plan.ops c (client_at s c) (next ∷ left)) within)) later)
+]
 
 sends_on : (plan : PlanView) (s : State) (c next : ℕ) (left : List ℕ) → (client_at s c).left ≡ next ∷ left → c < length s.clients → AreSentOrLeft plan s → AreSentOrLeft plan (after plan s c next left)
 sends_on plan s c next left is within h op above most = by (h op above most) (eqb_tells (line_of plan.ops op).client c)

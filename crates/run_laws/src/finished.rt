@@ -13,11 +13,9 @@ ghost use Rattle.far_model.specs.Uncached.{IsUncachedPlan};
 /// In every run of every plan each operation was sent, or its client has still to send it.
 pub fn every_operation_is_sent()
     ensures { (plan : PlanView) (events : List Event) → IsPlan plan → IsRun plan (opening plan) events → AreSentOrLeft plan (run plan (opening plan) events) }
-{
-}
+{}
 
 /// Where a run of a plan without a cache has finished, every operation of the plan is answered.
 pub fn finished_is_answered()
     ensures { (plan : PlanView) (events : List Event) → IsUncachedPlan plan → IsRun plan (opening plan) events → is_finished plan (run plan (opening plan) events) ≡ true → AllAnswered plan (run plan (opening plan) events) }
-{
-}
+{}

@@ -16,5 +16,5 @@ pub continues_on : (plan : PlanView) (pick : ℕ → ℕ) (n : ℕ) (s t : State
 continues_on plan pick n s t e events busy no_order chosen after before rest picked =
     let used : picks_after plan s n ≡ n + 1 = ap (λ b. if b then n else n + 1) no_order in
     let here : IsPickedFrom plan pick (picks_after plan s n) (happens plan s e) rest =
-        subst (λ (m : ℕ). IsPickedFrom plan pick m (happens plan s e) rest) (sym used) (subst (λ (u : State). IsPickedFrom plan pick (n + 1) u rest) after picked) in
+    subst (λ (m : ℕ). IsPickedFrom plan pick m (happens plan s e) rest) (sym used) (subst (λ (u : State). IsPickedFrom plan pick (n + 1) u rest) after picked) in
     subst (λ (es : List Event). IsPickedFrom plan pick 0 (opening plan) es) (sym (append_assoc events (e ∷ []) rest)) (before (e ∷ rest) (busy, chosen, here))

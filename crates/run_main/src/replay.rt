@@ -1,11 +1,3 @@
-use std::alloc::Global;
-
-use far_base::{Memory, Plan};
-use far_history::report_text;
-use far_world::World;
-
-use crate::base_form::{BaseFault, BaseWork, read_base};
-
 ghost use Rattle.std.specs.Prelude.{◌≡◌, ◌≤◌, [], true, length, IfOk, OnOk, Err};
 ghost use Rattle.far_model.specs.Runs as runs;
 ghost use Rattle.far_model.specs.State.{opening};
@@ -13,6 +5,12 @@ ghost use Rattle.far_model.specs.Uncached.{IsUncachedPlan};
 ghost use Rattle.run_main.specs.BaseForm.{WorkView, IsBaseForm};
 ghost use Rattle.run_main.specs.Top.{IsReplayOf};
 ghost use Rattle.run_main.specs.declared.top.TheConstants.{INPUT_LIMIT};
+
+use crate::base_form::{BaseFault, BaseWork, read_base};
+use far_base::{Memory, Plan};
+use far_history::report_text;
+use far_world::World;
+use std::alloc::Global;
 
 impl From<Memory> for BaseFault {
     ghost use Rattle.run_main.specs.declared.base_form.BaseFault.TheVariants.{Memory};

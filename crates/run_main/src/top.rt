@@ -1,10 +1,8 @@
-use std::alloc::Global;
-
-use far_outside::{ReadStop, Sink, SinkFault, Source, read_all};
-
 use crate::base_form::BaseFault;
 use crate::replay::replay;
 use crate::status::Status;
+use far_outside::{CleanSink, CleanSource, ReadStop, Sink, SinkFault, Source, read_all};
+use std::alloc::Global;
 
 /// The greatest number of bytes of an input.
 pub const INPUT_LIMIT: u32 = 16_777_216;
@@ -21,7 +19,7 @@ enum Stop {
     NotBuilt,
 }
 
-ghost use Rattle.std.specs.Prelude.{◌≡◌, ◌≤◌, ◌↔◌, ◌⊎◌, IsTrue, IfOk, IfSome, IsErrOf, codes, map, length, string_bytes};
+ghost use Rattle.std.specs.Prelude.{◌≡◌, ◌≢◌, Some, ◌≤◌, ◌↔◌, ◌⊎◌, IsTrue, IfOk, IfSome, IsErrOf, codes, map, length, string_bytes};
 ghost use Rattle.far_outside.specs.Faults.{Rose};
 ghost use Rattle.far_outside.specs.Reading.{HasReadAll, HadMore};
 ghost use Rattle.run_main.specs.Top.{IsReplay, IsReplayOf, IsNotBuilt, WroteTold, ReadToEnd, IsOrMemory, IsDecided};
@@ -124,4 +122,18 @@ pub fn top_calm<S: Source, D: Sink>(
         Err(Stop::Memory) => Status::Memory,
         Err(Stop::NotBuilt) => say(sink, NOT_BUILT, Status::NotBuilt),
     }
+}
+
+/// The top call over memory, where no read and no write fails.
+pub fn top_calm_in_memory(
+    alloc: Global,
+    words: &[String],
+    source: &mut CleanSource,
+    sink: &mut CleanSink,
+) -> Status
+    ensures no_read_fault { result ≢ Status.ReadFault }
+    ensures no_write_fault { result ≢ Status.WriteFault }
+    ensures written { WroteTold (map string_bytes words.now) (Some source.old) (Some sink.old) (Some sink.new) result }
+{
+    top_calm(alloc, words, source, sink)
 }
