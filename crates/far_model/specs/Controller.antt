@@ -231,7 +231,7 @@ abbrev pub client_told : Config → ControllerState → ℕ → ℕ → ℕ → 
 client_told config c number caller total item None = idle c
 client_told config c number caller total item (Some r) = if nat_eq r.number number && (nat_lt caller (length r.told) && not (has_told (telling_at r caller)))
     then (let new = length (store_outs config c.next_job item) in
-        round_turn config (record c { next_job = c.next_job + new }) (told_round r caller total new) (store_outs config c.next_job item))
+    round_turn config (record c { next_job = c.next_job + new }) (told_round r caller total new) (store_outs config c.next_job item))
     else idle c
 
 abbrev pub round_stored : Config → ControllerState → ℕ → Option Round → Turn ControllerState

@@ -1,3 +1,4 @@
+pub mod Answered
 pub mod Clients
 pub mod Coherent
 pub mod Controller
@@ -5,8 +6,10 @@ pub mod Events
 pub mod Evictions
 pub mod Flights
 pub mod History
+pub mod Invariants
 pub mod Kept
 pub mod KeyedRecords
+pub mod Lasting
 pub mod Log
 pub mod Members
 pub mod Parties

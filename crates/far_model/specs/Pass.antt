@@ -77,8 +77,8 @@ abbrev pub read_at : SwitchView → ℕ → ℕ → List ℕ → SlotView → Pa
 read_at v caller op key slot = record {
   view = v;
   first = if slot.latest
-    then sent_to (Client caller) (GetAns caller op key slot.num slot.body true)
-    else sent_to (Server (server_of v.config key)) (GetFwd caller op key slot.tag);
+      then sent_to (Client caller) (GetAns caller op key slot.num slot.body true)
+      else sent_to (Server (server_of v.config key)) (GetFwd caller op key slot.tag);
   second = None;
 }
 
@@ -154,8 +154,8 @@ abbrev pub peeks : SwitchView → ℕ → ℕ → SlotView → Passed
 peeks v i tag slot = record {
   view = v;
   first = if is_under tag slot
-    then sent_to Controller (PeekAns i tag slot.latest slot.num (shown_body slot))
-    else sent_to Controller (PeekAns i tag false 0 None);
+      then sent_to Controller (PeekAns i tag slot.latest slot.num (shown_body slot))
+      else sent_to Controller (PeekAns i tag false 0 None);
   second = None;
 }
 
@@ -171,8 +171,8 @@ removed_answer i tag done slot = if is_under tag slot
 abbrev pub removes : SwitchView → ℕ → ℕ → Bool → ℕ → SlotView → Passed
 removes v i tag latest num slot = if may_go tag latest num slot
     then (if slot.latest
-        then changes v i empty_slot (removed_answer i tag true slot)
-        else record { view = with_slot v i empty_slot; first = removed_answer i tag true slot; second = None })
+    then changes v i empty_slot (removed_answer i tag true slot)
+    else record { view = with_slot v i empty_slot; first = removed_answer i tag true slot; second = None })
     else record { view = v; first = removed_answer i tag false slot; second = None }
 
 abbrev pub starts_snapshot : SwitchView → ℕ → Passed

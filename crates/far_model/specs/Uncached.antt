@@ -2,6 +2,8 @@
 use Rattle.std.specs.Prelude.{◌≡◌, ◌≢◌, ℕ, ◌<◌, Bool, true, false, List, [], ◌∷◌, length, Option, None, Some}
 use Rattle.far_base.specs.Limits.{IsPlan}
 use Rattle.far_base.specs.PlanView.{PlanView}
+use Rattle.far_base.specs.declared.event.Event.{Event}
+use Rattle.far_base.specs.declared.event.Event.TheVariants.{Send, Deliver, Tick, Recover, Restart, Order as OrderOf}
 use Rattle.far_base.specs.declared.packet.Message.{Message}
 use Rattle.far_base.specs.declared.packet.Packet.{Packet}
 use Rattle.far_base.specs.declared.packet.Packet.TheVariants.{GetReq, WriteReq, GetFwd, WriteFwd, GetRep, WriteRep, GetAns, WriteAns, Hot, Admit, AdmitAck, Peek, PeekAns, Remove, RemoveAns, SnapStart, SnapBegun, SnapRead, SnapPart, Store, Stored, Release, Ask, Told, TopAsk, TopIs}
@@ -48,3 +50,9 @@ pub record IsUncached (plan : PlanView) (s : State) : Type 0 where
   pub servers : length s.servers ≡ plan.config.servers
   pub plain : (c : ℕ) → IsPlainClient (client_at s c)
   pub messages : (m : Message) → Among m s.bag → GoesTo plan.config m.packet m.to
+
+-- the events that happen in such a world
+abbrev pub is_send_or_deliver : Event → Bool
+is_send_or_deliver (Send c) = true
+is_send_or_deliver (Deliver i) = true
+is_send_or_deliver _ = false

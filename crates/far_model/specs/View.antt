@@ -103,4 +103,3 @@ shown_body slot = if slot.latest then slot.body else None
 -- whether the slot's part of the present snapshot was taken; with no snapshot all are
 abbrev pub is_taken : SwitchView → ℕ → Bool
 is_taken v i = nat_eq (slice_index_or v.taken i 0) v.snap
-

@@ -19,11 +19,10 @@ fn record_of(text: &[u8], num: u64) -> Result<Record, Fail> {
 fn a_server_keeps_the_greater_number(rt: HostRuntime) -> Result<(), Fail> {
     let mut keeper = MapKeeper::new(rt.alloc());
     keeper.begin(2).map_err(|_| "begin")?;
-    for (text, num) in [(b"b", 3), (b"a", 5), (b"b", 2), (b"c", 4)] {
-        keeper
-            .put(1, &record_of(text.as_slice(), num)?)
-            .map_err(|_| "put")?;
-    }
+    keeper.put(1, &record_of(b"b", 3)?).map_err(|_| "put")?;
+    keeper.put(1, &record_of(b"a", 5)?).map_err(|_| "put")?;
+    keeper.put(1, &record_of(b"b", 2)?).map_err(|_| "put")?;
+    keeper.put(1, &record_of(b"c", 4)?).map_err(|_| "put")?;
     assert!(rt; keeper.get(1, &key_of(b"b")?) == Ok(record_of(b"b", 3)?));
     assert!(rt; keeper.get(0, &key_of(b"b")?).map(|record| record.num) == Ok(0));
     assert!(rt; keeper.top(1) == Ok(5));

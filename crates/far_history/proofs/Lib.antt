@@ -1,0 +1,11 @@
+pub mod Emissions
+pub mod Exposed
+pub mod Keys
+pub mod Lists
+pub mod Orders
+pub mod Placing
+pub mod RowTexts
+pub mod Rows
+pub mod Walk
+pub mod Wanted
+pub mod Writes

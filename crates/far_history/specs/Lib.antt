@@ -1,0 +1,8 @@
+pub mod LastWrites
+pub mod Marks
+pub mod Places
+pub mod Report
+pub mod RoomyLog
+pub mod Rows
+pub mod Text
+pub mod Told

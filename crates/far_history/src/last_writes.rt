@@ -1,0 +1,94 @@
+use crate::log::Log;
+use crate::places::places_in;
+use crate::told::{Told, gather, sending_of};
+use far_base::{Body, Key, Memory, Placed, Record};
+use std::alloc::Global;
+use std::collections::BTreeMap;
+
+/// What the last write of a key set it to.
+#[derive(Clone, Copy)]
+pub(crate) struct LastWrite {
+    pub num: u64,
+    pub body: Body,
+}
+
+ghost use Rattle.std.specs.Prelude.{◌≡◌, ◌^◌, ◌≤◌, ℕ, [], map, length, slice_index_or, OnOk, IfOk};
+ghost use Rattle.far_history.specs.Told.{unheard};
+ghost use Rattle.far_history.specs.LastWrites.{entries_with, entries_after, record_of, IsMapOfHistory};
+
+/// Sets the key of the place's operation, if it writes.
+fn note_write(
+    last: &mut BTreeMap<Key, LastWrite>,
+    table: &[Told],
+    place: &Placed,
+) -> Result<(), Memory>
+    ensures { OnOk result (last.new.entries ≡ entries_with table.now last.old.entries place.now) }
+{
+    if place.read {
+        return Ok(());
+    }
+    let Some(sent) = sending_of(table, place.op) else {
+        return Ok(());
+    };
+    let write = LastWrite {
+        num: place.num,
+        body: sent.line.body,
+    };
+    match last.insert(sent.line.key, write) {
+        Ok(_) => Ok(()),
+        Err(_) => Err(Memory),
+    }
+}
+
+/// The last write of each key.
+fn writes_of(
+    alloc: Global,
+    table: &[Told],
+    places: &[Placed],
+) -> Result<BTreeMap<Key, LastWrite>, Memory>
+    ensures { IfOk result (λ last. last.entries ≡ entries_after table.now [] places.now) }
+{
+    let mut last = BTreeMap::new(alloc);
+    for place in places {
+        note_write(&mut last, table, place)?;
+    }
+    Ok(last)
+}
+
+/// The records of the keys, by key.
+fn records_of(alloc: Global, last: &BTreeMap<Key, LastWrite>) -> Result<Vec<Record>, Memory>
+    ensures { IfOk result (λ records. records.items ≡ map record_of last.now.entries) }
+{
+    let mut records = Vec::new(alloc);
+    for (key, write) in last {
+        let record = Record {
+            key: *key,
+            num: write.num,
+            body: write.body,
+        };
+        records.push(record).map_err(|_| Memory)?;
+    }
+    Ok(records)
+}
+
+/// The last write of each key that was written, by key.
+pub(crate) fn last_writes(
+    alloc: Global,
+    table: &[Told],
+    places: &[Placed],
+) -> Result<Vec<Record>, Memory>
+    ensures { IfOk result (λ records. records.items ≡ map record_of (entries_after table.now [] places.now)) }
+{
+    let last = writes_of(alloc, table, places)?;
+    records_of(alloc, &last)
+}
+
+/// The last write of the history for each key that was written, by key.
+pub fn final_map(alloc: Global, log: &Log) -> Result<Vec<Record>, Memory>
+    ensures { IfOk result (λ records. IsMapOfHistory log.now.lines records.items) }
+{
+    let lines = log.lines();
+    let table = gather(alloc, lines)?;
+    let places = places_in(alloc, &table, lines)?;
+    last_writes(alloc, &table, &places)
+}

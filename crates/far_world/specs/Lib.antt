@@ -1,0 +1,4 @@
+pub mod Entries
+pub mod WorldView
+pub mod RoomyBag
+pub mod Linearizable

@@ -1,0 +1,87 @@
+ghost use Rattle.std.specs.Prelude.{◌≡◌, IfOk, IsTrue};
+ghost use Rattle.std.specs.List.{list_all};
+ghost use Rattle.far_base.specs.Key.{is_visible};
+ghost use Rattle.far_base.specs.Limits.{IsVisibleBody};
+ghost use Rattle.far_model.specs.Uncached.{IsUncachedPlan};
+ghost use Rattle.far_base.specs.declared.plan.Op.TheVariants.{Put};
+
+use super::*;
+use far_base::{Body, Config, Key, LogEntry, Op, OpLine};
+use std::alloc::Global;
+use std::test::Fail;
+
+/// A put on the key `a`.
+fn put(client: u32, text: &[u8]) -> Result<OpLine, Fail>
+    requires { IsTrue (list_all is_visible text.now) }
+    ensures client { IfOk result (λ line. line.client ≡ client) }
+    ensures put { IfOk result (λ line. line.op ≡ Put) }
+    ensures body { IfOk result (λ line. IsVisibleBody line.body) }
+{
+    Ok(OpLine {
+        client,
+        op: Op::Put,
+        key: Key::from_text(b"a").ok_or("no key")?,
+        body: Body::from_bytes(text).ok_or("no body")?,
+    })
+}
+
+/// A plan of two puts of two clients.
+fn two_puts(alloc: Global) -> Result<Plan, Fail>
+    ensures { IfOk result IsUncachedPlan }
+{
+    let first = put(0, b"x")?;
+    let second = put(1, b"y")?;
+    let mut ops = Vec::new(alloc);
+    ops.push(first)?;
+    ops.push(second)?;
+    Ok(Plan {
+        config: Config {
+            clients: 2,
+            servers: 1,
+            slots: 1,
+            hot: 0,
+        },
+        ops,
+        orders: Vec::new(alloc),
+    })
+}
+
+/// The moment, the operation and the number of each answer that the switch sent.
+fn emissions(alloc: Global, log: &Log) -> Result<Vec<(u64, u32, u64)>, Fail> {
+    let mut found = Vec::new(alloc);
+    for line in log.lines() {
+        if let LogEntry::Emitted { op, num, .. } = line.entry {
+            found.push((line.moment, op, num))?;
+        }
+    }
+    Ok(found)
+}
+
+#[test]
+fn the_second_put_reaches_the_server_first(rt: HostRuntime) -> Result<(), Fail> {
+    let alloc = rt.alloc();
+    let mut world = World::start(alloc, two_puts(alloc)?)?;
+    for pick in [0, 0, 0, 0, 1, 1, 1, 0, 0, 0, 0] {
+        if !world.quiet() {
+            world.step(pick)?;
+        }
+    }
+    assert!(rt; world.finished());
+    let (_, events, log) = world.into_parts();
+    let expected = [
+        Event::Send(0),
+        Event::Send(1),
+        Event::Deliver(0),
+        Event::Deliver(0),
+        Event::Deliver(1),
+        Event::Deliver(1),
+        Event::Deliver(1),
+        Event::Deliver(0),
+        Event::Deliver(0),
+        Event::Deliver(0),
+    ];
+    assert!(rt; events.as_slice() == expected.as_slice());
+    let emitted = emissions(alloc, &log)?;
+    assert!(rt; emitted.as_slice() == [(6, 2, 2), (9, 1, 2)].as_slice());
+    Ok(())
+}

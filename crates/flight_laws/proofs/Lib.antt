@@ -1,0 +1,10 @@
+pub mod Bounds
+pub mod Finishing
+pub mod Handling
+pub mod Lists
+pub mod OneFlight
+pub mod Passing
+pub mod Ruling
+pub mod Sends
+pub mod WithoutCache
+pub mod Working

@@ -1,0 +1,135 @@
+-- Reading a packet from left to right, up to the first fault.
+use Rattle.std.specs.Prelude.{ℕ, List, [], ◌∷◌, ◌==◌, if◌then◌else◌, Result, Ok, Err}
+use Rattle.far_base.specs.declared.packet.Packet.{Packet}
+use Rattle.far_base.specs.declared.packet.Packet.TheVariants.{GetReq, WriteReq, GetFwd, WriteFwd, GetRep, WriteRep, GetAns, WriteAns, Hot, Admit, AdmitAck, Peek, PeekAns, Remove, RemoveAns, SnapStart, SnapBegun, SnapRead, SnapPart, Store, Stored, Release, Ask, Told, TopAsk, TopIs}
+use Rattle.packet_codec.specs.declared.fault.BadPacket.{BadPacket}
+use Rattle.packet_codec.specs.declared.fault.BadPacket.TheVariants.{Version, Kind, Rest}
+use Rattle.packet_codec.specs.declared.wire.TheConstants.{VERSION}
+use Rattle.packet_codec.specs.Reading.{Field, ◌>>=◌, ◌then◌, ◌into◌, made, byte_at, u32_at, u64_at, flag_at, key_at, body_at, rec_at, held_at}
+
+-- the fields of each kind, in their order
+unfoldable pub get_req_at : Field Packet
+get_req_at = made (λ f. GetReq f.0.0 f.0.1 f.1) (u32_at then u32_at then key_at)
+
+unfoldable pub write_req_at : Field Packet
+write_req_at = made (λ f. WriteReq f.0.0.0 f.0.0.1 f.0.1 f.1) (u32_at then u32_at then key_at then body_at)
+
+unfoldable pub get_fwd_at : Field Packet
+get_fwd_at = made (λ f. GetFwd f.0.0.0 f.0.0.1 f.0.1 f.1) (u32_at then u32_at then key_at then u64_at)
+
+unfoldable pub write_fwd_at : Field Packet
+write_fwd_at = made (λ f. WriteFwd f.0.0.0.0 f.0.0.0.1 f.0.0.1 f.0.1 f.1) (u32_at then u32_at then key_at then u64_at then body_at)
+
+unfoldable pub get_rep_at : Field Packet
+get_rep_at = made (λ f. GetRep f.0.0.0.0.0 f.0.0.0.0.1 f.0.0.0.1 f.0.0.1 f.0.1 f.1) (u32_at then u32_at then key_at then u64_at then u64_at then body_at)
+
+unfoldable pub write_rep_at : Field Packet
+write_rep_at = made (λ f. WriteRep f.0.0.0.0 f.0.0.0.1 f.0.0.1 f.0.1 f.1) (u32_at then u32_at then key_at then u64_at then body_at)
+
+unfoldable pub get_ans_at : Field Packet
+get_ans_at = made (λ f. GetAns f.0.0.0.0.0 f.0.0.0.0.1 f.0.0.0.1 f.0.0.1 f.0.1 f.1) (u32_at then u32_at then key_at then u64_at then body_at then flag_at)
+
+unfoldable pub write_ans_at : Field Packet
+write_ans_at = made (λ f. WriteAns f.0.0.0.0 f.0.0.0.1 f.0.0.1 f.0.1 f.1) (u32_at then u32_at then key_at then u64_at then flag_at)
+
+unfoldable pub hot_at : Field Packet
+hot_at = made (λ f. Hot f) (key_at)
+
+unfoldable pub admit_at : Field Packet
+admit_at = made (λ f. Admit f.0.0.0 f.0.0.1 f.0.1 f.1) (u32_at then u32_at then key_at then u64_at)
+
+unfoldable pub admit_ack_at : Field Packet
+admit_ack_at = made (λ f. AdmitAck f.0 f.1) (u32_at then u64_at)
+
+unfoldable pub peek_at : Field Packet
+peek_at = made (λ f. Peek f.0.0 f.0.1 f.1) (u32_at then u32_at then u64_at)
+
+unfoldable pub peek_ans_at : Field Packet
+peek_ans_at = made (λ f. PeekAns f.0.0.0.0 f.0.0.0.1 f.0.0.1 f.0.1 f.1) (u32_at then u64_at then flag_at then u64_at then body_at)
+
+unfoldable pub remove_at : Field Packet
+remove_at = made (λ f. Remove f.0.0.0.0 f.0.0.0.1 f.0.0.1 f.0.1 f.1) (u32_at then u32_at then u64_at then flag_at then u64_at)
+
+unfoldable pub remove_ans_at : Field Packet
+remove_ans_at = made (λ f. RemoveAns f.0.0.0.0.0 f.0.0.0.0.1 f.0.0.0.1 f.0.0.1 f.0.1 f.1) (u32_at then u64_at then flag_at then flag_at then u64_at then body_at)
+
+unfoldable pub snap_start_at : Field Packet
+snap_start_at = made (λ f. SnapStart f.0 f.1) (u32_at then u32_at)
+
+unfoldable pub snap_begun_at : Field Packet
+snap_begun_at = made (λ f. SnapBegun f.0 f.1) (u32_at then u64_at)
+
+unfoldable pub snap_read_at : Field Packet
+snap_read_at = made (λ f. SnapRead f.0.0 f.0.1 f.1) (u32_at then u32_at then u32_at)
+
+unfoldable pub snap_part_at : Field Packet
+snap_part_at = made (λ f. SnapPart f.0.0 f.0.1 f.1) (u32_at then u32_at then held_at)
+
+unfoldable pub store_at : Field Packet
+store_at = made (λ f. Store f.0 f.1) (u64_at then rec_at)
+
+unfoldable pub stored_at : Field Packet
+stored_at = made (λ f. Stored f) (u64_at)
+
+unfoldable pub release_at : Field Packet
+release_at = made (λ f. Release f) (u64_at)
+
+unfoldable pub ask_at : Field Packet
+ask_at = made (λ f. Ask f) (u32_at)
+
+unfoldable pub told_at : Field Packet
+told_at = made (λ f. Told f.0.0.0 f.0.0.1 f.0.1 f.1) (u32_at then u32_at then u32_at then held_at)
+
+unfoldable pub top_ask_at : Field Packet
+top_ask_at = made (λ f. TopAsk f) (u32_at)
+
+unfoldable pub top_is_at : Field Packet
+top_is_at = made (λ f. TopIs f.0.0 f.0.1 f.1) (u32_at then u32_at then u64_at)
+
+-- the fields of the kind of this number
+unfoldable pub fields_at : ℕ → Field Packet
+fields_at kind bytes =
+    if kind == 1 then get_req_at bytes else
+    if kind == 2 then write_req_at bytes else
+    if kind == 3 then get_fwd_at bytes else
+    if kind == 4 then write_fwd_at bytes else
+    if kind == 5 then get_rep_at bytes else
+    if kind == 6 then write_rep_at bytes else
+    if kind == 7 then get_ans_at bytes else
+    if kind == 8 then write_ans_at bytes else
+    if kind == 9 then hot_at bytes else
+    if kind == 10 then admit_at bytes else
+    if kind == 11 then admit_ack_at bytes else
+    if kind == 12 then peek_at bytes else
+    if kind == 13 then peek_ans_at bytes else
+    if kind == 14 then remove_at bytes else
+    if kind == 15 then remove_ans_at bytes else
+    if kind == 16 then snap_start_at bytes else
+    if kind == 17 then snap_begun_at bytes else
+    if kind == 18 then snap_read_at bytes else
+    if kind == 19 then snap_part_at bytes else
+    if kind == 20 then store_at bytes else
+    if kind == 21 then stored_at bytes else
+    if kind == 22 then release_at bytes else
+    if kind == 23 then ask_at bytes else
+    if kind == 24 then told_at bytes else
+    if kind == 25 then top_ask_at bytes else
+    if kind == 26 then top_is_at bytes else
+    Err Kind
+
+-- a kind and its fields behind this version
+abbrev pub versioned : ℕ → Field Packet
+versioned version bytes = if version == VERSION then (byte_at into fields_at) bytes else Err Version
+
+-- the version, a kind and its fields
+unfoldable pub packet_at : Field Packet
+packet_at = byte_at into versioned
+
+-- nothing may stand behind a packet
+abbrev pub whole : Packet × List ℕ → Result Packet BadPacket
+whole (packet, []) = Ok packet
+whole (packet, b ∷ rest) = Err Rest
+
+-- a packet, and then nothing
+unfoldable pub packet_of : List ℕ → Result Packet BadPacket
+packet_of bytes = packet_at bytes >>= whole

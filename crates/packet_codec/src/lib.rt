@@ -1,0 +1,25 @@
+//! Packets as bytes. A packet has exactly one spelling: the version, the number of its kind and
+//! the fields of that kind in their order, with nothing between them and nothing after them.
+//! Numbers are big-endian.
+#![tactic(auto)]
+
+mod decoding;
+mod encoding;
+mod fault;
+mod fields;
+mod kinds;
+mod laws;
+mod reader;
+mod wire;
+mod writer;
+
+pub use decoding::decode;
+pub use encoding::encode;
+pub use far_base::{Out, Packet};
+pub use fault::BadPacket;
+pub use fields::{read_body, read_key, read_rec};
+pub use laws::spellings_are_one;
+pub use wire::{KIND_COUNT, VERSION, WIRE_SIZE, Wire};
+
+#[cfg(test)]
+mod tests;

@@ -1,0 +1,74 @@
+use std::marker::Model;
+
+/// The first byte of each packet.
+pub const VERSION: u8 = 1;
+
+/// The kinds of packets are numbered from 1 to this.
+pub const KIND_COUNT: u8 = 26;
+
+/// The number of bytes in a `Wire`, of which the longest packet takes fewer.
+pub const WIRE_SIZE: usize = 192;
+
+/// The bytes of a packet on its way, in an array with zeros behind them. Contracts see the list of
+/// the bytes.
+#[derive(Clone, Copy)]
+pub struct Wire {
+    len: u16,
+    bytes: [u8; WIRE_SIZE],
+}
+
+impl Model for Wire {
+    ghost use Rattle.std.specs.Prelude.{List, ℕ, take, length};
+    ghost use Rattle.packet_codec.specs.declared.wire.TheConstants.{WIRE_SIZE};
+    ghost use Rattle.far_base.specs.Padded.{IsPadded, padded};
+
+    ghost Value = { List ℕ };
+
+    ghost view = { λ w. take w.len w.bytes };
+
+    ghost invariant = { λ w. IsPadded WIRE_SIZE w.len w.bytes };
+
+    ghost inverse = { λ text. record { len = length text; bytes = padded WIRE_SIZE text } };
+
+    ghost use Rattle.packet_codec.specs.WireFields.{wire_is};
+
+    ghost inverse_ok = { λ a h. let e = wire_is a.len a.bytes h in Prim.rw (e.1, e.0) };
+}
+
+ghost use Rattle.std.specs.Prelude.{◌≡◌, ◌≤◌, ◌+◌, ◌++◌, [], length, take, drop};
+
+fn put_at(out: &mut [u8], at: usize, text: &[u8])
+    requires { at + length text.now ≤ length out.old }
+    ensures { out.new ≡ take at out.old ++ text.now ++ drop (at + length text.now) out.old }
+{
+    out[at..at + text.len()].copy_from_slice(text);
+}
+
+impl Wire {
+    /// No bytes.
+    pub(crate) fn new() -> Self
+        ensures { result ≡ [] }
+    {
+        Wire {
+            len: 0,
+            bytes: [0; WIRE_SIZE],
+        }
+    }
+
+    /// The bytes.
+    pub fn bytes(&self) -> &[u8]
+        ensures value { result.now ≡ self.now }
+        ensures short { length self.now ≤ WIRE_SIZE }
+    {
+        &self.bytes[..self.len as usize]
+    }
+
+    /// Adds the text at the end.
+    pub(crate) fn push(&mut self, text: &[u8])
+        requires { length self.old + length text.now ≤ WIRE_SIZE }
+        ensures { self.new ≡ self.old ++ text.now }
+    {
+        put_at(&mut self.bytes, self.len as usize, text);
+        self.len += text.len() as u16;
+    }
+}

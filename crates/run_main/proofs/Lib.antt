@@ -1,0 +1,7 @@
+mod Picks
+mod Replays
+pub mod BaseLaws
+pub mod Fields
+pub mod Loops
+pub mod Numbers
+pub mod WordLaws

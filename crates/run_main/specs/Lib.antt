@@ -1,0 +1,5 @@
+pub mod Number
+pub mod BaseForm
+pub mod Reading
+pub mod Status
+pub mod Top

@@ -1,0 +1,10 @@
+//! The messages on their way, as a list of packets in bytes.
+#![tactic(auto)]
+
+mod bag;
+
+pub use bag::Bag;
+pub use packet_codec::Wire;
+
+#[cfg(test)]
+mod tests;
