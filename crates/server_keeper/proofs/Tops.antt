@@ -1,12 +1,10 @@
 -- The greatest number of a server and of all servers.
-use Rattle.std.proofs.Common.{◌≡◌, ℕ, zero, suc, ◌<◌, ◌≤◌, max, Bool, true, false, cond, List, [], ◌∷◌, length, replicate, get_or, set, refl, sym, ap, ◌∙◌, arith, inl, inr, ◌⊎◌}
+use Rattle.std.proofs.Common.{◌≡◌, ℕ, zero, suc, ◌<◌, ◌≤◌, max, Bool, true, false, cond, List, [], ◌∷◌, length, replicate, refl, arith}
 use Rattle.std.specs.Prelude.{nat_lt}
-use Rattle.std.proofs.lemmas.Bool.{cases_lt}
 use borrow.Author.Tests.{ltb-true, ltb-false}
 use Rattle.far_base.specs.declared.record.Record.{Record}
-use Rattle.far_model.specs.KeyedRecords.{found, put_record, in_key_order, by_key, is_key_before}
+use Rattle.far_model.specs.KeyedRecords.{found, put_record}
 use Rattle.far_model.specs.Log.{same_key}
-use Rattle.far_model.specs.Members.{Each}
 use Rattle.far_model.specs.Servers.{kept, top_of}
 use Rattle.far_outside.specs.Keeping.{records_of, put_at}
 use Rattle.server_keeper.specs.Lists.{top_of_all}

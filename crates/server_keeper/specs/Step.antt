@@ -1,7 +1,7 @@
 -- What a packet to a server asks of a keeper.
-use Rattle.std.specs.Prelude.{ℕ, max, List, slice_set, Option, None, Some}
+use Rattle.std.specs.Prelude.{ℕ, List, slice_set}
 use Rattle.far_base.specs.declared.packet.Packet.{Packet}
-use Rattle.far_base.specs.declared.packet.Packet.TheVariants.{GetReq, WriteReq, GetFwd, WriteFwd, GetRep, WriteRep, GetAns, WriteAns, Hot, Admit, AdmitAck, Peek, PeekAns, Remove, RemoveAns, SnapStart, SnapBegun, SnapRead, SnapPart, Store, Stored, Release, Ask, Told, TopAsk, TopIs}
+use Rattle.far_base.specs.declared.packet.Packet.TheVariants.{GetFwd, WriteFwd, GetRep, WriteRep, Store, TopAsk, TopIs}
 use Rattle.far_base.specs.declared.record.Record.{Record}
 use Rattle.far_model.specs.Servers.{server_keeps}
 use Rattle.far_outside.specs.Keeping.{records_of}
