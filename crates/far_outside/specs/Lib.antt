@@ -1,4 +1,5 @@
 pub mod Bytes
 pub mod Faults
+pub mod Keeping
 pub mod Listed
 pub mod Reading

@@ -1,10 +1,11 @@
-//! The edge to the outside: where bytes are read from and written to, and that a call fails only
-//! where a count of faults rose.
+//! The edge to the outside: where bytes are read from and written to, where records are kept, and
+//! that a call fails only where a count of faults rose.
 #![tactic(auto)]
 
 mod clean;
 mod faults;
 mod fill;
+mod keeper;
 mod listed;
 mod reading;
 mod sink;
@@ -12,6 +13,7 @@ mod source;
 mod standard;
 
 pub use clean::{CleanSink, CleanSource};
+pub use keeper::{Keeper, KeeperFault};
 pub use listed::{MemSink, MemSource};
 pub use reading::{ReadStop, read_all};
 pub use sink::{Sink, SinkFault};

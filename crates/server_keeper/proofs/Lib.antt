@@ -1,0 +1,5 @@
+pub mod Keys
+pub mod Entries
+pub mod Tops
+pub mod Kept
+pub mod Listed

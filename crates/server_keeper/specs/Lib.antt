@@ -1,0 +1,5 @@
+pub mod Entries
+pub mod Faults
+pub mod Lists
+pub mod Scripted
+pub mod Step

@@ -1,0 +1,14 @@
+//! Keepers of the servers' records in memory, and what a server does with a packet over any keeper.
+#![tactic(auto)]
+
+mod map_keeper;
+mod records;
+mod scripted;
+mod step;
+
+pub use map_keeper::MapKeeper;
+pub use scripted::ScriptedKeeper;
+pub use step::{StepFault, server_step};
+
+#[cfg(test)]
+mod tests;
