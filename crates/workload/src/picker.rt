@@ -1,0 +1,43 @@
+use crate::load::Workload;
+use rand_core::SeedableRng;
+use rand_core::utils::NextWord;
+use rand_pcg::Lcg64Xsh32;
+
+/// Where the choice of events stands: how many of the listed picks were taken, and the generator
+/// of the draws behind them.
+#[derive(Drop)]
+pub struct Picker {
+    place: usize,
+    rng: Option<Lcg64Xsh32>,
+}
+
+fn generator(start: Option<u64>) -> Option<Lcg64Xsh32> {
+    match start {
+        Some(start) => Some(Lcg64Xsh32::seed_from_u64(start)),
+        None => None,
+    }
+}
+
+impl Picker {
+    /// A picker before its first pick.
+    pub fn new(load: &Workload) -> Self {
+        Picker {
+            place: 0,
+            rng: generator(load.random),
+        }
+    }
+
+    /// The next pick: the listed ones in their order, then draws, or 0 where the workload has no
+    /// `random`.
+    pub fn next(&mut self, load: &Workload) -> u64 {
+        if self.place < load.picks.len() {
+            let pick = load.picks[self.place];
+            self.place += 1;
+            return pick;
+        }
+        match &mut self.rng {
+            None => 0,
+            Some(rng) => u64::from(rng.next_word()),
+        }
+    }
+}

@@ -1,0 +1,129 @@
+use crate::load::Workload;
+use far_base::{Body, Config, Key, Memory, Op, OpLine, Order};
+use itoa::Buffer;
+use std::alloc::Global;
+
+/// The number of picks in a line; the last line has the rest.
+pub const PICKS_PER_LINE: u32 = 1000;
+
+fn put(out: &mut Vec<u8>, text: &[u8]) -> Result<(), Memory> {
+    out.extend_from_slice(text)?;
+    Ok(())
+}
+
+/// Writes the text and the number behind it.
+fn put_number(out: &mut Vec<u8>, text: &[u8], number: u64) -> Result<(), Memory> {
+    let mut buffer = Buffer::new();
+    put(out, text)?;
+    put(out, buffer.format(number).as_bytes())
+}
+
+fn put_number_line(out: &mut Vec<u8>, text: &[u8], number: u64) -> Result<(), Memory> {
+    put_number(out, text, number)?;
+    put(out, b"\n")
+}
+
+fn put_number_and_key(
+    out: &mut Vec<u8>,
+    text: &[u8],
+    number: u64,
+    key: &Key,
+) -> Result<(), Memory> {
+    put_number(out, text, number)?;
+    put(out, b" ")?;
+    put(out, key.text())
+}
+
+fn put_head(out: &mut Vec<u8>, config: &Config) -> Result<(), Memory> {
+    put(out, b"far 1\n")?;
+    put_number_line(out, b"clients ", u64::from(config.clients))?;
+    put_number_line(out, b"servers ", u64::from(config.servers))?;
+    put_number_line(out, b"slots ", u64::from(config.slots))?;
+    put_number_line(out, b"hot ", u64::from(config.hot))
+}
+
+fn put_body(out: &mut Vec<u8>, body: &Body) -> Result<(), Memory> {
+    if !body.is_present() {
+        return Ok(());
+    }
+    put(out, b" =")?;
+    put(out, body.text())
+}
+
+fn verb(op: Op) -> &'static [u8] {
+    match op {
+        Op::Get => b"get ",
+        Op::Put => b"put ",
+        Op::Del => b"del ",
+    }
+}
+
+fn put_op(out: &mut Vec<u8>, line: &OpLine) -> Result<(), Memory> {
+    put_number_and_key(out, verb(line.op), u64::from(line.client), &line.key)?;
+    put_body(out, &line.body)?;
+    put(out, b"\n")
+}
+
+fn put_order(out: &mut Vec<u8>, order: &Order) -> Result<(), Memory> {
+    match order {
+        Order::Admit { step, key } => put_number_and_key(out, b"admit ", *step, key)?,
+        Order::Evict { step, key } => put_number_and_key(out, b"evict ", *step, key)?,
+        Order::Snap { step } => put_number(out, b"snap ", *step)?,
+        Order::Stop { step } => put_number(out, b"stop ", *step)?,
+    }
+    put(out, b"\n")
+}
+
+fn put_ops(out: &mut Vec<u8>, ops: &[OpLine]) -> Result<(), Memory> {
+    for line in ops {
+        put_op(out, line)?;
+    }
+    Ok(())
+}
+
+fn put_orders(out: &mut Vec<u8>, orders: &[Order]) -> Result<(), Memory> {
+    for order in orders {
+        put_order(out, order)?;
+    }
+    Ok(())
+}
+
+/// Writes a pick behind so many others of its line.
+fn put_pick(out: &mut Vec<u8>, place: u32, pick: u64) -> Result<(), Memory> {
+    if place == 0 {
+        put_number(out, b"picks ", pick)
+    } else if place == PICKS_PER_LINE {
+        put_number(out, b"\npicks ", pick)
+    } else {
+        put_number(out, b" ", pick)
+    }
+}
+
+fn put_picks(out: &mut Vec<u8>, picks: &[u64]) -> Result<(), Memory> {
+    let mut place = 0;
+    for pick in picks {
+        put_pick(out, place, *pick)?;
+        place = if place == PICKS_PER_LINE {
+            1
+        } else {
+            place + 1
+        };
+    }
+    if place == 0 {
+        return Ok(());
+    }
+    put(out, b"\n")
+}
+
+/// The text of the workload.
+pub fn print(alloc: Global, load: &Workload) -> Result<Vec<u8>, Memory> {
+    let mut out = Vec::new(alloc);
+    put_head(&mut out, &load.plan.config)?;
+    put_ops(&mut out, &load.plan.ops)?;
+    put_orders(&mut out, &load.plan.orders)?;
+    put_picks(&mut out, &load.picks)?;
+    if let Some(start) = load.random {
+        put_number_line(&mut out, b"random ", start)?;
+    }
+    Ok(out)
+}
