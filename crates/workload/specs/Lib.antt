@@ -5,3 +5,8 @@ pub mod Words
 pub mod Forms
 pub mod Joining
 pub mod Reading
+pub mod Spelling
+pub mod Rows
+pub mod Plain
+pub mod Draws
+pub mod Picks

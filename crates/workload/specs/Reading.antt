@@ -2,8 +2,8 @@
 use Rattle.std.specs.Prelude.{ℕ, ◌+◌, List, [], ◌∷◌, Option, Some, None, Result, Ok, Err, nat_le, nat_lt, nat_eq, length, bytes_eq, if◌then◌else◌, codes}
 use Rattle.far_base.specs.declared.plan.Config.{Config}
 use Rattle.far_base.specs.declared.plan.TheConstants.{CLIENT_LIMIT, SERVER_LIMIT, SLOT_LIMIT, HOT_LIMIT}
-use Rattle.workload.specs.Outcome.{◌>>=◌, ◌andthen◌}
-use Rattle.workload.specs.Words.{pieces, behind, number_of}
+use Rattle.workload.specs.Outcome.{◌andthen◌}
+use Rattle.workload.specs.Words.{pieces, named}
 use Rattle.workload.specs.Forms.{form_of, step_by}
 use Rattle.workload.specs.WorkView.{WorkView}
 use Rattle.workload.specs.declared.fault.Limit.{Limit}
@@ -35,7 +35,7 @@ sized_by n least most which (Some k) = if nat_lt k least then Err (BadLine n) el
 
 -- line n: a name and a number within these bounds
 abbrev pub sized : ℕ → List ℕ → ℕ → ℕ → Limit → List ℕ → Result ℕ WorkFault
-sized n name least most which line = sized_by n least most which (behind name line >>= number_of)
+sized n name least most which line = sized_by n least most which (named name line)
 
 abbrev pub size_of : ℕ → List ℕ → ℕ → ℕ → Limit → Lines → Result (ℕ × Lines) WorkFault
 size_of n name least most which lines = next_line n lines andthen λ l. sized (n + 1) name least most which l.0 andthen λ k. Ok (k, l.1)

@@ -55,6 +55,10 @@ numbers_of (word ∷ words) = number_of word >>= λ n. numbers_of words >>= λ n
 abbrev pub behind : List ℕ → List ℕ → Option (List ℕ)
 behind name text = if bytes_eq (take (length name) text) name then Some (drop (length name) text) else None
 
+-- the number behind the name
+abbrev pub named : List ℕ → List ℕ → Option ℕ
+named name text = behind name text >>= number_of
+
 abbrev pub verb_of : List ℕ → Option Verb
 verb_of word = if bytes_eq word (codes "get") then Some Get
     else if bytes_eq word (codes "put") then Some Put

@@ -1,4 +1,4 @@
-use std::alloc::{AllocError, AllocFailed};
+use std::alloc::AllocFailed;
 
 /// A limit that a workload, or its text, may pass.
 #[derive(Clone, Copy, Debug, PartialEq, Eq)]
@@ -26,6 +26,9 @@ pub enum WorkFault {
     /// Memory was refused.
     Memory,
 }
+
+ghost use Rattle.std.specs.Prelude.{◌≡◌};
+ghost use Rattle.workload.specs.declared.fault.WorkFault.TheVariants.{Memory};
 
 impl<T: Drop> From<AllocFailed<T>> for WorkFault {
     ghost from_gives = { λ _ e. e ≡ Memory };

@@ -1,6 +1,6 @@
 ghost use Rattle.std.specs.Prelude.{◌≡◌, ◌≤◌, ◌+◌, ◌<◌, ◌^◌, length, IfOk};
-ghost use Rattle.workload.specs.Outcome.{◌>>=◌, Gives};
-ghost use Rattle.workload.specs.Words.{pieces, behind, number_of as spelled_number};
+ghost use Rattle.workload.specs.Outcome.{Gives};
+ghost use Rattle.workload.specs.Words.{pieces, named};
 ghost use Rattle.workload.specs.Reading.{next_line, title_of, size_of, head_of};
 
 use crate::fault::{Limit, WorkFault};
@@ -15,7 +15,7 @@ pub(crate) struct Lines<'a> {
 }
 
 fn named_number(line: &[u8], name: &[u8]) -> Option<u64>
-    ensures { result ≡ (behind name.now line.now >>= spelled_number) }
+    ensures { result ≡ named name.now line.now }
 {
     number_of(line.strip_prefix(name)?)
 }
@@ -50,7 +50,12 @@ impl<'a> Lines<'a> {
         }
     }
 
-    fn size(&mut self, name: &[u8], least: u32, most: u32, which: Limit) -> Result<u32, WorkFault> {
+    fn size(&mut self, name: &[u8], least: u32, most: u32, which: Limit) -> Result<u32, WorkFault>
+        requires { self.old.read + 1 < 2 ^ 32 }
+        ensures line { Gives (λ k. (k, pieces 10 self.new.rest.now)) result (size_of self.old.read name.now least most which (pieces 10 self.old.rest.now)) }
+        ensures shorter { IfOk result (λ _. length self.new.rest.now < length self.old.rest.now) }
+        ensures count { IfOk result (λ _. self.new.read ≡ self.old.read + 1) }
+    {
         let line = self.next_line()?;
         let Some(number) = named_number(line, name) else {
             return Err(WorkFault::BadLine(self.read));

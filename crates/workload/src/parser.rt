@@ -1,14 +1,12 @@
-ghost use Rattle.std.specs.Prelude.{◌≡◌, ◌≤◌, ◌<◌, ◌^◌, length, Some, None, Option};
-ghost use Rattle.std.specs.List.{count_by};
+ghost use Rattle.std.specs.Prelude.{◌≡◌, ◌≤◌, ◌<◌, ◌^◌, length, true};
 ghost use Rattle.far_base.specs.Limits.{is_slot_order, is_snap, is_stop};
 ghost use Rattle.far_base.specs.declared.plan.Op.TheVariants.{Get as ReadOp, Del as DelOp};
-ghost use Rattle.far_base.specs.declared.plan.Order.TheVariants.{Admit, Evict, Snap, Stop};
 ghost use Rattle.workload.specs.Outcome.{Gives};
-ghost use Rattle.workload.specs.Words.{number_of as spelled_number};
-ghost use Rattle.workload.specs.Forms.{op_counted, order_step, passed, step_by, form_by, an_op};
+ghost use Rattle.workload.specs.Words.{pieces};
+ghost use Rattle.workload.specs.Forms.{op_counted, order_step, passed, step_by, form_by};
 ghost use Rattle.workload.specs.Reading.{line_step, reading};
-ghost use Rattle.workload.specs.Joining.{pushed, joined_from, client_in};
-ghost use Rattle.workload.specs.declared.words.Verb.TheVariants.{Get, Put, Del, Admit as AdmitVerb, Evict as EvictVerb, Snap as SnapVerb, Stop as StopVerb, Picks, Random};
+ghost use Rattle.workload.specs.Joining.{client_in, pushed, joined_from};
+ghost use Rattle.workload.specs.declared.words.Verb.TheVariants.{Get, Put, Del, Admit, Evict, Snap, Stop, Picks, Random};
 
 use crate::fault::{Limit, WorkFault};
 use crate::lines::Lines;
@@ -84,18 +82,34 @@ fn push_pick(picks: &mut Vec<u64>, number: u32, word: &[u8]) -> Result<bool, Wor
     let Some(pick) = number_of(word) else {
         return Err(WorkFault::BadLine(number));
     };
-    if picks.len() == PICK_LIMIT as usize {
+    if picks.len() >= PICK_LIMIT as usize {
         return Ok(false);
     }
     picks.push(pick)?;
     Ok(true)
 }
 
+#[tactic(auto, using(crate::proofs::Joined::one_cut, crate::proofs::Joined::cut_fails, crate::proofs::Joined::last_word))]
+fn join_picks(picks: &mut Vec<u64>, number: u32, words: &[u8]) -> Result<(), WorkFault>
+    ensures { Gives (λ _. picks.new.items) result (joined_from number true picks.old.items (pieces 32 words.now)) }
+{
+    let mut rest = words;
+    while let Some((word, behind)) = cut(rest, b' ') {
+        push_pick(picks, number, word)?;
+        rest = behind;
+    }
+    if push_pick(picks, number, rest)? {
+        Ok(())
+    } else {
+        Err(WorkFault::TooLarge(Limit::Picks, number))
+    }
+}
+
 impl Workload {
     fn push_op(&mut self, number: u32, line: OpLine) -> Result<(), WorkFault>
         ensures { Gives (λ _. self.new) result (op_counted number self.old line) }
     {
-        if self.plan.ops.len() == OP_LIMIT as usize {
+        if self.plan.ops.len() >= OP_LIMIT as usize {
             return Err(WorkFault::TooLarge(Limit::Ops, number));
         }
         self.plan.ops.push(line)?;
@@ -157,7 +171,7 @@ impl Workload {
     }
 
     fn take_admit(&mut self, number: u32, words: &[u8]) -> Result<(), WorkFault>
-        ensures { Gives (λ _. self.new) result (step_by number self.old (form_by AdmitVerb words.now)) }
+        ensures { Gives (λ _. self.new) result (step_by number self.old (form_by Admit words.now)) }
     {
         let Some((step, key)) = number_and_key(words) else {
             return Err(WorkFault::BadLine(number));
@@ -166,7 +180,7 @@ impl Workload {
     }
 
     fn take_evict(&mut self, number: u32, words: &[u8]) -> Result<(), WorkFault>
-        ensures { Gives (λ _. self.new) result (step_by number self.old (form_by EvictVerb words.now)) }
+        ensures { Gives (λ _. self.new) result (step_by number self.old (form_by Evict words.now)) }
     {
         let Some((step, key)) = number_and_key(words) else {
             return Err(WorkFault::BadLine(number));
@@ -175,7 +189,7 @@ impl Workload {
     }
 
     fn take_snap(&mut self, number: u32, words: &[u8]) -> Result<(), WorkFault>
-        ensures { Gives (λ _. self.new) result (step_by number self.old (form_by SnapVerb words.now)) }
+        ensures { Gives (λ _. self.new) result (step_by number self.old (form_by Snap words.now)) }
     {
         let Some(step) = number_of(words) else {
             return Err(WorkFault::BadLine(number));
@@ -184,7 +198,7 @@ impl Workload {
     }
 
     fn take_stop(&mut self, number: u32, words: &[u8]) -> Result<(), WorkFault>
-        ensures { Gives (λ _. self.new) result (step_by number self.old (form_by StopVerb words.now)) }
+        ensures { Gives (λ _. self.new) result (step_by number self.old (form_by Stop words.now)) }
     {
         let Some(step) = number_of(words) else {
             return Err(WorkFault::BadLine(number));
@@ -192,19 +206,12 @@ impl Workload {
         self.push_order(number, Order::Stop { step })
     }
 
+    #[tactic(auto, using(crate::proofs::Joined::picks_read, crate::proofs::Joined::picks_fail))]
     fn take_picks(&mut self, number: u32, words: &[u8]) -> Result<(), WorkFault>
         ensures { Gives (λ _. self.new) result (step_by number self.old (form_by Picks words.now)) }
     {
-        let mut rest = words;
-        while let Some((word, behind)) = cut(rest, b' ') {
-            push_pick(&mut self.picks, number, word)?;
-            rest = behind;
-        }
-        if push_pick(&mut self.picks, number, rest)? {
-            Ok(())
-        } else {
-            Err(WorkFault::TooLarge(Limit::Picks, number))
-        }
+        join_picks(&mut self.picks, number, words)?;
+        Ok(())
     }
 
     fn take_random(&mut self, number: u32, words: &[u8]) -> Result<(), WorkFault>
@@ -242,7 +249,7 @@ impl Workload {
 }
 
 /// The workload that the text is.
-#[tactic(auto, unfolding(crate::specs::Reading::reading))]
+#[tactic(auto, unfolding(crate::specs::Reading::reading), using(crate::proofs::ByLine::line_read, crate::proofs::ByLine::line_fails, crate::proofs::ByLine::line_missing, crate::proofs::ByLine::text_over))]
 pub fn parse(alloc: Global, text: &[u8]) -> Result<Workload, WorkFault>
     requires { length text.now < 2 ^ 32 }
     ensures read { Gives (λ w. w) result (reading text.now) }

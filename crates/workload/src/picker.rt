@@ -2,6 +2,7 @@ use crate::load::Workload;
 use rand_core::SeedableRng;
 use rand_core::utils::NextWord;
 use rand_pcg::Lcg64Xsh32;
+use std::marker::Model;
 
 /// Where the choice of events stands: how many of the listed picks were taken, and the generator
 /// of the draws behind them.
@@ -11,7 +12,21 @@ pub struct Picker {
     rng: Option<Lcg64Xsh32>,
 }
 
-fn generator(start: Option<u64>) -> Option<Lcg64Xsh32> {
+impl Model for Picker {
+    ghost use Rattle.workload.specs.Picks.{Picking};
+
+    ghost Value = { Picking };
+
+    ghost view = { λ p. record { place = p.place; rng = p.rng } };
+}
+
+ghost use Rattle.std.specs.Prelude.{◌≡◌};
+ghost use Rattle.workload.specs.Picks.{generator_by, first_picking, next_pick};
+
+#[tactic(auto, unfolding(crate::specs::Draws::seeded))]
+fn generator(start: Option<u64>) -> Option<Lcg64Xsh32>
+    ensures { result ≡ generator_by start }
+{
     match start {
         Some(start) => Some(Lcg64Xsh32::seed_from_u64(start)),
         None => None,
@@ -20,7 +35,9 @@ fn generator(start: Option<u64>) -> Option<Lcg64Xsh32> {
 
 impl Picker {
     /// A picker before its first pick.
-    pub fn new(load: &Workload) -> Self {
+    pub fn new(load: &Workload) -> Self
+        ensures { result ≡ first_picking load.now }
+    {
         Picker {
             place: 0,
             rng: generator(load.random),
@@ -29,7 +46,11 @@ impl Picker {
 
     /// The next pick: the listed ones in their order, then draws, or 0 where the workload has no
     /// `random`.
-    pub fn next(&mut self, load: &Workload) -> u64 {
+    #[tactic(auto, unfolding(crate::specs::Picks::next_pick))]
+    pub fn next(&mut self, load: &Workload) -> u64
+        ensures pick { result ≡ (next_pick load.now.picks self.old).0 }
+        ensures rest { self.new ≡ (next_pick load.now.picks self.old).1 }
+    {
         if self.place < load.picks.len() {
             let pick = load.picks[self.place];
             self.place += 1;
