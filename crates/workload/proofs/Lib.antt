@@ -5,3 +5,5 @@ pub mod Joined
 pub mod ByLine
 pub mod Heads
 pub mod RowLaws
+pub mod Chained
+pub mod Spelled

@@ -18,5 +18,4 @@ open_text (row ∷ more) = spaced row ++ line_end ++ lines_text (map OfPicks mor
 
 -- what is still to be written, where so many picks stand in the open line
 abbrev pub rest_text : ℕ → List ℕ → List ℕ
-rest_text zero picks = lines_text (map OfPicks (rows picks))
-rest_text (suc place) picks = open_text (rows_from (PICKS_PER_LINE - suc place) picks)
+rest_text place picks = if nat_eq place 0 then lines_text (map OfPicks (rows picks)) else open_text (rows_from (PICKS_PER_LINE - place) picks)

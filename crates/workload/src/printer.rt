@@ -1,7 +1,7 @@
 ghost use Rattle.std.specs.Prelude.{◌≡◌, ◌≤◌, ◌++◌, map, IfOk};
 ghost use Rattle.workload.specs.Forms.{OfOp, OfOrder, OfPicks};
 ghost use Rattle.workload.specs.Plain.{IsPlain};
-ghost use Rattle.workload.specs.Spelling.{number_text, number_line, number_key_text, head_text, verb_text, body_text, line_text, lines_text, form_text, rows, spelling};
+ghost use Rattle.workload.specs.Spelling.{number_text, number_line, number_key_text, head_text, verb_text, body_text, line_text, lines_text, rows, random_forms, spelling};
 ghost use Rattle.workload.specs.Rows.{pick_text, next_place};
 ghost use Rattle.workload.specs.declared.printer.TheConstants.{PICKS_PER_LINE};
 
@@ -144,11 +144,7 @@ fn put_picks(out: &mut Vec<u8>, picks: &[u64]) -> Result<(), Memory>
     let mut place = 0;
     for pick in picks {
         put_pick(out, place, *pick)?;
-        place = if place == PICKS_PER_LINE {
-            1
-        } else {
-            place + 1
-        };
+        place = next_place(place);
     }
     if place == 0 {
         return Ok(());
@@ -156,7 +152,17 @@ fn put_picks(out: &mut Vec<u8>, picks: &[u64]) -> Result<(), Memory>
     put(out, b"\n")
 }
 
-/// The text of the workload.
+fn put_random(out: &mut Vec<u8>, random: Option<u64>) -> Result<(), Memory>
+    ensures { IfOk result (λ _. out.new.items ≡ out.old.items ++ lines_text (random_forms random)) }
+{
+    match random {
+        Some(start) => put_number_line(out, b"random ", start),
+        None => Ok(()),
+    }
+}
+
+/// The text of the workload: the head, the operations, the orders, the picks at `PICKS_PER_LINE` a
+/// line and the rest in the last one, and the start number where there is one.
 pub fn print(alloc: Global, load: &Workload) -> Result<Vec<u8>, Memory>
     requires { IsPlain load.now }
     ensures text { IfOk result (λ text. text.items ≡ spelling load.now) }
@@ -166,8 +172,6 @@ pub fn print(alloc: Global, load: &Workload) -> Result<Vec<u8>, Memory>
     put_ops(&mut out, &load.plan.ops)?;
     put_orders(&mut out, &load.plan.orders)?;
     put_picks(&mut out, &load.picks)?;
-    if let Some(start) = load.random {
-        put_number_line(&mut out, b"random ", start)?;
-    }
+    put_random(&mut out, load.random)?;
     Ok(out)
 }
