@@ -10,10 +10,10 @@ use Rattle.workload.specs.declared.fault.WorkFault.TheVariants.{BadLine, TooLarg
 use Rattle.workload.proofs.Joined.{fails_on}
 use Rattle.workload.proofs.Pieces.{some_piece}
 
-abbrev found : {A : Type 0} → A → Result A WorkFault
+abbrev pub found : {A : Type 0} → A → Result A WorkFault
 found x = Ok x
 
-same_ok : {A : Type 0} (x y : A) → found x ≡ found y → x ≡ y
+pub same_ok : {A : Type 0} (x y : A) → found x ≡ found y → x ≡ y
 same_ok x y e = cc
 
 body_more : (n : ℕ) (w : WorkView) (lines rest : Lines) (line : List ℕ) → next_line n lines ≡ Ok (line, rest) → body_from n w lines ≡ (line_step (n + 1) w line andthen λ read. body_from (n + 1) read rest)

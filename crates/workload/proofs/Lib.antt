@@ -7,3 +7,6 @@ pub mod Heads
 pub mod RowLaws
 pub mod Chained
 pub mod Spelled
+pub mod FormLaws
+pub mod LineLaws
+pub mod HeadLaws

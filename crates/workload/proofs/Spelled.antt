@@ -9,6 +9,7 @@ use Rattle.far_base.specs.Padded.{padded}
 use Rattle.far_base.specs.declared.key.TheConstants.{KEY_LENGTH}
 use Rattle.far_base.specs.declared.plan.TheConstants.{STEP_LIMIT}
 use Rattle.far_base.proofs.Keys.{padded_is_key}
+use Rattle.workload.specs.Meaning.{IsNumber, IsKey, AreNumbers}
 use Rattle.workload.specs.Number.{is_digit, is_number, value_from}
 use Rattle.workload.specs.Outcome.{◌>>=◌}
 use Rattle.workload.specs.Reading.{Lines}
@@ -129,9 +130,6 @@ pub record IsSpelling {B : Type 0} (parse : List ℕ → Option B) (spell : B �
   pub takes : (w : List ℕ) (y : B) → parse w ≡ Some y → (w ≡ spell y) × Fits y
   pub again : (y : B) → Fits y → parse (spell y) ≡ Some y
 
-abbrev pub IsNumber : ℕ → Type 0
-IsNumber n = n ≤ STEP_LIMIT
-
 pub number_is : IsSpelling number_of decimal IsNumber
 number_is = record {
   takes = λ w n e.
@@ -147,9 +145,6 @@ pub number_lacks : (mark n : ℕ) → mark ≤ 32 → IsNumber n → lacks mark 
 number_lacks mark n le fits = visible_lacks mark (decimal n) le (number_visible n (omega (arith, fits)))
 
 -- ---- keys
-
-abbrev pub IsKey : List ℕ → Type 0
-IsKey key = IsTrue (is_key key)
 
 text_zeros : (k : ℕ) → key_text (replicate k 0) ≡ []
 text_zeros zero = refl
@@ -295,10 +290,6 @@ abbrev pub numbers_text : List ℕ → List ℕ
 numbers_text [] = []
 numbers_text (n ∷ ns) = decimal n ++ spaced ns
 
--- one or more numbers
-abbrev pub FitNumbers : List ℕ → Type 0
-FitNumbers ns = (1 ≤ length ns) × AllByRecursion IsNumber ns
-
 joined_numbers : (words : Lines) (ns : List ℕ) → numbers_of words ≡ Some ns → (joined 32 words ≡ numbers_text ns) × AllByRecursion IsNumber ns × (length words ≡ length ns)
 joined_numbers [] ns e = subst (λ (y : List ℕ). ([] ≡ numbers_text y) × AllByRecursion IsNumber y × (0 ≡ length y)) (some_is [] ns e) (refl, tt, refl)
 joined_numbers (word ∷ []) ns e =
@@ -321,7 +312,7 @@ numbers_again : (n : ℕ) (ns : List ℕ) → IsNumber n → AllByRecursion IsNu
 numbers_again n [] h k = rw (append-nil (decimal n), pieces_word 32 (decimal n) (number_lacks 32 n (omega arith) h), number_is.again n h) refl
 numbers_again n (m ∷ ms) h k = rw (pieces_more 32 (decimal n) (decimal m ++ spaced ms) (number_lacks 32 n (omega arith) h), number_is.again n h, numbers_again m ms k.0 k.1) refl
 
-pub numbers_is : IsSpelling (λ w. numbers_of (pieces 32 w)) numbers_text FitNumbers
+pub numbers_is : IsSpelling (λ w. numbers_of (pieces 32 w)) numbers_text AreNumbers
 numbers_is = record {
   takes = λ w ns e.
       let p = some_piece 32 w in
@@ -331,6 +322,6 @@ numbers_is = record {
   again = go;
 }
   where
-    go : (ns : List ℕ) → FitNumbers ns → numbers_of (pieces 32 (numbers_text ns)) ≡ Some ns
+    go : (ns : List ℕ) → AreNumbers ns → numbers_of (pieces 32 (numbers_text ns)) ≡ Some ns
     go [] fits = absurd (omega (arith, fits.0))
     go (n ∷ ns) fits = numbers_again n ns fits.1.0 fits.1.1

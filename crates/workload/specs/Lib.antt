@@ -8,5 +8,6 @@ pub mod Reading
 pub mod Spelling
 pub mod Rows
 pub mod Plain
+pub mod Meaning
 pub mod Draws
 pub mod Picks
