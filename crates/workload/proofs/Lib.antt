@@ -10,3 +10,5 @@ pub mod Spelled
 pub mod FormLaws
 pub mod LineLaws
 pub mod HeadLaws
+pub mod StepLaws
+pub mod ReadingLaws

@@ -1,5 +1,5 @@
 -- What it means that a text is a workload.
-use Rattle.std.specs.Prelude.{◌≡◌, ℕ, ◌≤◌, List, [], ◌∷◌, ◌++◌, length, Option, None, Some, IsTrue}
+use Rattle.std.specs.Prelude.{◌≡◌, ℕ, ◌≤◌, List, [], ◌∷◌, ◌++◌, length, Option, None, Some, Result, Ok, Err, IsTrue}
 use Rattle.std.specs.List.{flat_map, AllByRecursion}
 use Rattle.far_base.specs.Key.{is_key}
 use Rattle.far_base.specs.Limits.{FitsOp}
@@ -13,6 +13,8 @@ use Rattle.workload.specs.Forms.{Form, OfOp, OfOrder, OfPicks, OfRandom}
 use Rattle.workload.specs.Plain.{IsPlain}
 use Rattle.workload.specs.Spelling.{head_text, lines_text}
 use Rattle.workload.specs.WorkView.{WorkView}
+use Rattle.workload.specs.declared.fault.WorkFault.{WorkFault}
+use Rattle.workload.specs.declared.fault.WorkFault.TheVariants.{BadLine, TooLarge, Memory}
 
 -- a number of at most nineteen digits
 abbrev pub IsNumber : ℕ → Type 0
@@ -93,3 +95,10 @@ pub record IsReading (text : List ℕ) (w : WorkView) : Type 0 where
   pub fit : AllByRecursion IsForm forms
   pub name : Name forms w
   pub within : IsWithin w
+
+-- this workload was read, or memory was refused
+abbrev pub IsReadAs : Result WorkView WorkFault → WorkView → Type 0
+IsReadAs (Ok found) w = found ≡ w
+IsReadAs (Err (BadLine line)) w = ⊥
+IsReadAs (Err (TooLarge which line)) w = ⊥
+IsReadAs (Err Memory) w = Unit {0}

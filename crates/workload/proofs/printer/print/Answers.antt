@@ -1,6 +1,6 @@
 use Rattle.std.proofs.Common.{◌≡◌, rules, sym, ap, ◌∙◌}
 use Rattle.workload.proofs.Chained.{all_parts}
-use Rattle.workload.proofs.HeadLaws.{head_again}
+use Rattle.workload.proofs.ReadingLaws.{is_only}
 use Rattle.workload.proofs.printer.print.Goals as goal
 
 pub returns : goal.returns
