@@ -14,6 +14,10 @@ pub ok_then : {A E : Type 0} (r : Result A E) (P Q : Type 0) → (P → Q) → I
 ok_then (Ok x) P Q f h = f h
 ok_then (Err e) P Q f h = tt
 
+pub always : {A E : Type 0} (r : Result A E) (P : Type 0) → P → IfOk r (λ _. P)
+always (Ok x) P h = h
+always (Err e) P h = tt
+
 pub five_texts : (o f a b c d x1 x2 x3 x4 x5 : List ℕ) → x1 ≡ o ++ f → x2 ≡ x1 ++ a → x3 ≡ x2 ++ b → x4 ≡ x3 ++ c → x5 ≡ x4 ++ d → x5 ≡ o ++ (f ++ a ++ b ++ c ++ d)
 five_texts o f a b c d x1 x2 x3 x4 x5 e1 e2 e3 e4 e5 = rw (e5, e4, e3, e2, e1) (simp append_assoc)
 

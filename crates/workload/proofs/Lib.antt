@@ -12,3 +12,4 @@ pub mod LineLaws
 pub mod HeadLaws
 pub mod StepLaws
 pub mod ReadingLaws
+pub mod PrintedLaws

@@ -46,6 +46,17 @@ IsForm (OfOrder order) = IsOrderForm order
 IsForm (OfPicks picks) = AreNumbers picks
 IsForm (OfRandom start) = IsNumber start
 
+-- what the types of keys and bodies give
+pub record IsWholeOp (line : OpLine) : Type 0 where
+  pub key : IsKey line.key
+  pub short : length_of line.body ≤ BODY_LIMIT
+
+abbrev pub IsWholeOrder : Order → Type 0
+IsWholeOrder (Admit step key) = IsKey key
+IsWholeOrder (Evict step key) = IsKey key
+IsWholeOrder (Snap step) = Unit {0}
+IsWholeOrder (Stop step) = Unit {0}
+
 -- ---- what the lines name, in their order
 
 abbrev pub op_in : Form → List OpLine

@@ -1,10 +1,13 @@
-ghost use Rattle.std.specs.Prelude.{◌≡◌, ◌≤◌, ◌<◌, ◌^◌, length, true};
+ghost use Rattle.std.specs.Prelude.{◌≡◌, ◌≤◌, ◌<◌, ◌^◌, length, true, IfOk};
 ghost use Rattle.far_base.specs.Limits.{is_slot_order, is_snap, is_stop};
 ghost use Rattle.far_base.specs.declared.plan.Op.TheVariants.{Get as ReadOp, Del as DelOp};
 ghost use Rattle.workload.specs.Outcome.{Gives};
 ghost use Rattle.workload.specs.Words.{pieces};
 ghost use Rattle.workload.specs.Forms.{op_counted, order_step, passed, step_by, form_by};
 ghost use Rattle.workload.specs.Reading.{line_step, reading};
+ghost use Rattle.workload.specs.Meaning.{IsReading, IsReadAs};
+ghost use Rattle.workload.specs.Plain.{IsPlain};
+ghost use Rattle.workload.specs.WorkView.{WorkView};
 ghost use Rattle.workload.specs.Joining.{client_in, pushed, joined_from};
 ghost use Rattle.workload.specs.declared.words.Verb.TheVariants.{Get, Put, Del, Admit, Evict, Snap, Stop, Picks, Random};
 
@@ -248,11 +251,10 @@ impl Workload {
     }
 }
 
-/// The workload that the text is.
 #[tactic(auto, unfolding(crate::specs::Reading::reading), using(crate::proofs::ByLine::line_read, crate::proofs::ByLine::line_fails, crate::proofs::ByLine::line_missing, crate::proofs::ByLine::text_over))]
-pub fn parse(alloc: Global, text: &[u8]) -> Result<Workload, WorkFault>
+fn read_text(alloc: Global, text: &[u8]) -> Result<Workload, WorkFault>
     requires { length text.now < 2 ^ 32 }
-    ensures read { Gives (λ w. w) result (reading text.now) }
+    ensures { Gives (λ w. w) result (reading text.now) }
 {
     let mut lines = Lines {
         rest: text,
@@ -265,4 +267,20 @@ pub fn parse(alloc: Global, text: &[u8]) -> Result<Workload, WorkFault>
         load.take_line(lines.read, line)?;
     }
     Ok(load)
+}
+
+/// The workload that the text is, or the first line with a fault and its fault. `BadLine` names a
+/// line that has none of the forms, a missing head line, a line without its end, a count of 0, a
+/// client that is not there, and a second start number; `TooLarge` a line that passes a limit.
+pub fn parse(alloc: Global, text: &[u8]) -> Result<Workload, WorkFault>
+    requires { length text.now < 2 ^ 32 }
+    // A workload, or a fault and its line, as the reading of the lines gives it.
+    ensures read { Gives (λ w. w) result (reading text.now) }
+    // The lines of what is read are its text.
+    ensures found { IfOk result (λ w. IsReading text.now w) }
+    // A text that is a workload is read as it, unless memory is refused.
+    ensures only { (w : WorkView) → IsReading text.now w → IsReadAs result w }
+    ensures plain { IfOk result (λ w. IsPlain w) }
+{
+    read_text(alloc, text)
 }

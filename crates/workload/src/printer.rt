@@ -1,7 +1,12 @@
 ghost use Rattle.std.specs.Prelude.{◌≡◌, ◌≤◌, ◌++◌, map, IfOk};
+ghost use Rattle.std.specs.List.{AllByRecursion};
+ghost use Rattle.far_base.specs.Key.{key_text};
+ghost use Rattle.far_base.specs.Padded.{length_of};
+ghost use Rattle.far_base.specs.declared.body.TheConstants.{BODY_LIMIT};
+ghost use Rattle.workload.specs.Meaning.{IsKey, IsWholeOp, IsWholeOrder, IsReading};
 ghost use Rattle.workload.specs.Forms.{OfOp, OfOrder, OfPicks};
 ghost use Rattle.workload.specs.Plain.{IsPlain};
-ghost use Rattle.workload.specs.Spelling.{number_text, number_line, number_key_text, head_text, verb_text, body_text, line_text, lines_text, rows, random_forms, spelling};
+ghost use Rattle.workload.specs.Spelling.{number_text, number_line, number_key_text, head_text, verb_text, body_text, order_text, line_text, lines_text, rows, random_forms, spelling};
 ghost use Rattle.workload.specs.Rows.{pick_text, next_place};
 ghost use Rattle.workload.specs.declared.printer.TheConstants.{PICKS_PER_LINE};
 
@@ -36,12 +41,22 @@ fn put_number_line(out: &mut Vec<u8>, text: &[u8], number: u64) -> Result<(), Me
     put(out, b"\n")
 }
 
+fn put_key(out: &mut Vec<u8>, key: &Key) -> Result<(), Memory>
+    ensures text { IfOk result (λ _. out.new.items ≡ out.old.items ++ key_text key.now) }
+    ensures key { IsKey key.now }
+{
+    // The bytes of a key tell that they are one.
+    let _bytes = key.bytes();
+    put(out, key.text())
+}
+
 fn put_number_and_key(out: &mut Vec<u8>, text: &[u8], number: u64, key: &Key) -> Result<(), Memory>
-    ensures { IfOk result (λ _. out.new.items ≡ out.old.items ++ number_key_text text.now number key.now) }
+    ensures text { IfOk result (λ _. out.new.items ≡ out.old.items ++ number_key_text text.now number key.now) }
+    ensures key { IfOk result (λ _. IsKey key.now) }
 {
     put_number(out, text, number)?;
     put(out, b" ")?;
-    put(out, key.text())
+    put_key(out, key)
 }
 
 fn put_head(out: &mut Vec<u8>, config: &Config) -> Result<(), Memory>
@@ -55,7 +70,8 @@ fn put_head(out: &mut Vec<u8>, config: &Config) -> Result<(), Memory>
 }
 
 fn put_body(out: &mut Vec<u8>, body: &Body) -> Result<(), Memory>
-    ensures { IfOk result (λ _. out.new.items ≡ out.old.items ++ body_text body.now) }
+    ensures text { IfOk result (λ _. out.new.items ≡ out.old.items ++ body_text body.now) }
+    ensures short { IfOk result (λ _. length_of body.now ≤ BODY_LIMIT) }
 {
     if !body.is_present() {
         return Ok(());
@@ -75,27 +91,37 @@ fn verb(op: Op) -> &'static [u8]
 }
 
 fn put_op(out: &mut Vec<u8>, line: &OpLine) -> Result<(), Memory>
-    ensures { IfOk result (λ _. out.new.items ≡ out.old.items ++ line_text (OfOp line.now)) }
+    ensures text { IfOk result (λ _. out.new.items ≡ out.old.items ++ line_text (OfOp line.now)) }
+    ensures whole { IfOk result (λ _. IsWholeOp line.now) }
 {
     put_number_and_key(out, verb(line.op), u64::from(line.client), &line.key)?;
     put_body(out, &line.body)?;
     put(out, b"\n")
 }
 
-fn put_order(out: &mut Vec<u8>, order: &Order) -> Result<(), Memory>
-    ensures { IfOk result (λ _. out.new.items ≡ out.old.items ++ line_text (OfOrder order.now)) }
+fn put_order_words(out: &mut Vec<u8>, order: &Order) -> Result<(), Memory>
+    ensures text { IfOk result (λ _. out.new.items ≡ out.old.items ++ order_text order.now) }
+    ensures whole { IfOk result (λ _. IsWholeOrder order.now) }
 {
     match order {
-        Order::Admit { step, key } => put_number_and_key(out, b"admit ", *step, key)?,
-        Order::Evict { step, key } => put_number_and_key(out, b"evict ", *step, key)?,
-        Order::Snap { step } => put_number(out, b"snap ", *step)?,
-        Order::Stop { step } => put_number(out, b"stop ", *step)?,
+        Order::Admit { step, key } => put_number_and_key(out, b"admit ", *step, key),
+        Order::Evict { step, key } => put_number_and_key(out, b"evict ", *step, key),
+        Order::Snap { step } => put_number(out, b"snap ", *step),
+        Order::Stop { step } => put_number(out, b"stop ", *step),
     }
+}
+
+fn put_order(out: &mut Vec<u8>, order: &Order) -> Result<(), Memory>
+    ensures text { IfOk result (λ _. out.new.items ≡ out.old.items ++ line_text (OfOrder order.now)) }
+    ensures whole { IfOk result (λ _. IsWholeOrder order.now) }
+{
+    put_order_words(out, order)?;
     put(out, b"\n")
 }
 
 fn put_ops(out: &mut Vec<u8>, ops: &[OpLine]) -> Result<(), Memory>
-    ensures { IfOk result (λ _. out.new.items ≡ out.old.items ++ lines_text (map OfOp ops.now)) }
+    ensures text { IfOk result (λ _. out.new.items ≡ out.old.items ++ lines_text (map OfOp ops.now)) }
+    ensures whole { IfOk result (λ _. AllByRecursion IsWholeOp ops.now) }
 {
     for line in ops {
         put_op(out, line)?;
@@ -104,7 +130,8 @@ fn put_ops(out: &mut Vec<u8>, ops: &[OpLine]) -> Result<(), Memory>
 }
 
 fn put_orders(out: &mut Vec<u8>, orders: &[Order]) -> Result<(), Memory>
-    ensures { IfOk result (λ _. out.new.items ≡ out.old.items ++ lines_text (map OfOrder orders.now)) }
+    ensures text { IfOk result (λ _. out.new.items ≡ out.old.items ++ lines_text (map OfOrder orders.now)) }
+    ensures whole { IfOk result (λ _. AllByRecursion IsWholeOrder orders.now) }
 {
     for order in orders {
         put_order(out, order)?;
@@ -166,6 +193,8 @@ fn put_random(out: &mut Vec<u8>, random: Option<u64>) -> Result<(), Memory>
 pub fn print(alloc: Global, load: &Workload) -> Result<Vec<u8>, Memory>
     requires { IsPlain load.now }
     ensures text { IfOk result (λ text. text.items ≡ spelling load.now) }
+    // What is printed reads as the workload again.
+    ensures reads { IfOk result (λ text. IsReading text.items load.now) }
 {
     let mut out = Vec::new(alloc);
     put_head(&mut out, &load.plan.config)?;

@@ -1,7 +1,11 @@
-use Rattle.std.proofs.Common.{rules}
-use Rattle.workload.specs.Words.{pieces}
-use Rattle.workload.proofs.ByLine.{line_faulty}
+use Rattle.workload.proofs.ReadingLaws.{is_found, is_only, is_plain}
 use Rattle.workload.proofs.parser.parse.Goals as goal
 
-pub returns-in_err-take_line : goal.returns-in_err-take_line
-returns-in_err-take_line c = search (rules, line_faulty c.args.text.now c.loop-lines.lines.read c.next_line.new.self.read c.loop-lines.load (pieces 10 c.loop-lines.lines.rest.now) (pieces 10 c.next_line.new.self.rest.now) c.in_ok-line.line.now c.in_err-take_line.field-0.0 c.loop-lines.invariant.reads c.in_ok-line.ensures.line c.in_ok-line.ensures.count c.in_err-take_line.ensures)
+pub returns-clause-found : goal.returns-clause-found
+returns-clause-found c = is_found c.args.text.now c.read_text.result c.read_text.ensures
+
+pub returns-clause-only : goal.returns-clause-only
+returns-clause-only c = is_only c.args.text.now c.read_text.result c.read_text.ensures
+
+pub returns-clause-plain : goal.returns-clause-plain
+returns-clause-plain c = is_plain c.args.text.now c.read_text.result c.read_text.ensures

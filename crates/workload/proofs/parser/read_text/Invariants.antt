@@ -1,7 +1,7 @@
 use Rattle.std.proofs.Common.{◌≡◌, ◌+◌, ◌≤◌, length}
 use Rattle.workload.specs.Words.{pieces}
 use Rattle.workload.specs.Reading.{body_from, reading}
-use Rattle.workload.proofs.parser.parse.Given as goal
+use Rattle.workload.proofs.parser.read_text.Given as goal
 
 -- the lines so far and those to come are the whole text
 abbrev pub invariant-loop-lines : goal.invariant-loop-lines
