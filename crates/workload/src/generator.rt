@@ -1,5 +1,5 @@
 ghost use Rattle.std.specs.Prelude.{◌≡◌, ◌≤◌, ◌<◌, ◌++◌, ◌∷◌, [], IfOk, Some};
-ghost use Rattle.far_base.specs.declared.plan.TheConstants.{OP_LIMIT};
+ghost use Rattle.far_base.specs.declared.plan.TheConstants.{OP_LIMIT, STEP_LIMIT};
 ghost use Rattle.workload.specs.Draws.{after, op_by, key_number, lettered, key_by, body_by, choice_from, op_with, ops_from, seeded, orders_by, generated};
 ghost use Rattle.workload.specs.Plain.{IsPlain};
 
@@ -145,8 +145,7 @@ fn orders_of(alloc: Global, ops: u64) -> Result<Vec<Order>, Memory>
     Vec::from_array(alloc, orders).map_err(|_| Memory)
 }
 
-/// A workload of so many operations that four draws each make, with two snapshots and two stops.
-pub fn generate(alloc: Global, start: u64, ops: u32) -> Result<Workload, Memory>
+fn work_of(alloc: Global, start: u64, ops: u32) -> Result<Workload, Memory>
     requires { ops ≤ OP_LIMIT }
     ensures { IfOk result (λ load. load ≡ generated start ops) }
 {
@@ -165,4 +164,14 @@ pub fn generate(alloc: Global, start: u64, ops: u32) -> Result<Workload, Memory>
         picks: Vec::new(alloc),
         random: Some(start),
     })
+}
+
+/// A workload of so many operations, each made by four draws of the generator of the start number,
+/// with two snapshots and two stops. Its picks are draws of a second generator of that number.
+pub fn generate(alloc: Global, start: u64, ops: u32) -> Result<Workload, Memory>
+    requires { ops ≤ OP_LIMIT }
+    ensures work { IfOk result (λ load. load ≡ generated start ops) }
+    ensures plain { start ≤ STEP_LIMIT → IfOk result (λ load. IsPlain load) }
+{
+    work_of(alloc, start, ops)
 }

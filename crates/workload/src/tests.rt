@@ -1,8 +1,6 @@
 use super::*;
 use std::test::Fail;
 
-const HEAD: &[u8] = b"far 1\nclients 1\nservers 1\nslots 1\nhot 0\n";
-
 fn fault_of(rt: &HostRuntime, text: &[u8]) -> Option<WorkFault> {
     match parse(rt.alloc(), text) {
         Ok(_) => None,
@@ -25,44 +23,53 @@ fn what_was_read_prints_as_it_was(rt: HostRuntime) -> Result<(), Fail> {
 
 #[test]
 fn the_first_fault_decides(rt: HostRuntime) {
-    let bad = |line: u32| Some(WorkFault::BadLine(line));
-    let large = |which: Limit, line: u32| Some(WorkFault::TooLarge(which, line));
     for (text, fault) in [
-        (b"".as_slice(), bad(1)),
-        (b"far 1\nclients 1\n".as_slice(), bad(3)),
+        (b"".as_slice(), WorkFault::BadLine(1)),
+        (b"far 1\nclients 1\n".as_slice(), WorkFault::BadLine(3)),
         (
             b"far 1\nclients 1\nservers 1\nslots 1025\nhot 0\n".as_slice(),
-            large(Limit::Slots, 4),
-        ),
-        (
-            b"far 1\nclients 0\nservers 1\nslots 1\nhot 0\n".as_slice(),
-            bad(2),
+            WorkFault::TooLarge(Limit::Slots, 4),
         ),
         (
             b"far 1\nclients 1\nservers 1\nslots 1\nhot 0\nget 0 0123456789abcdefg\n".as_slice(),
-            bad(6),
+            WorkFault::BadLine(6),
+        ),
+        (
+            b"far 1\nclients 1\nservers 1\nslots 1\nhot 0\nput 0 a =xxxxxxxxxxxxxxxxxxxxxxxxxxxxxxxxxxxxxxxxxxxxxxxxxxxxxxxxxxxxxxxxxxxxxxxxxxxxxxxxxxxxxxxxxxxxxxxxxxxxxxxxxxxxxxxxxxxxxxxxxxxxxxxxx\n".as_slice(),
+            WorkFault::TooLarge(Limit::Body, 6),
         ),
         (
             b"far 1\nclients 1\nservers 1\nslots 1\nhot 0\nget 1 a\n".as_slice(),
-            bad(6),
+            WorkFault::BadLine(6),
         ),
         (
             b"far 1\nclients 1\nservers 1\nslots 1\nhot 0\nget 0 a".as_slice(),
-            bad(6),
+            WorkFault::BadLine(6),
         ),
         (
             b"far 1\nclients 1\nservers 1\nslots 1\nhot 0\nrandom 1\nrandom 1\n".as_slice(),
-            bad(7),
-        ),
-        (
-            b"far 1\nclients 1\nservers 1\nslots 1\nhot 0\npicks 1 \n".as_slice(),
-            bad(6),
-        ),
-        (
-            b"far 1\nclients 1\nservers 1\nslots 1\nhot 0\nput 0 a =\n\n".as_slice(),
-            bad(7),
+            WorkFault::BadLine(7),
         ),
     ] {
-        assert!(rt; fault_of(&rt, text) == fault);
+        assert!(rt; fault_of(&rt, text) == Some(fault));
     }
+}
+
+#[test]
+fn generated_work_and_its_picks(rt: HostRuntime) -> Result<(), Fail> {
+    let load = generate(rt.alloc(), 7, 6).ok().ok_or("not generated")?;
+    let printed = print(rt.alloc(), &load).ok().ok_or("not printed")?;
+    assert!(rt;
+        printed.as_slice()
+            == b"far 1\nclients 16\nservers 4\nslots 256\nhot 4\nget 9 k1220\nput 12 k32 =v2\nput 3 k18 =v3\nget 0 k53\nget 10 k22\nget 8 k6\nsnap 6\nstop 12\nsnap 18\nstop 24\nrandom 7\n".as_slice()
+    );
+    let mut picker = Picker::new(&load);
+    for draw in [
+        2442223337, 414063806, 2743600285, 3524868804, 2371632060, 1368306093, 671954468,
+        3804052768, 577050371, 3328487688, 2891323500, 1331013586, 4058641856, 3679627213,
+        2667227530, 97758645, 1300909050, 1247874432, 3892859953, 306414230,
+    ] {
+        assert_eq!(rt; picker.next(&load), draw);
+    }
+    Ok(())
 }
