@@ -55,10 +55,10 @@ is_text b bs =
     with_more b first [] = tt
     with_more b first (next ∷ more) = tt
 
-abbrev fault_is : {A : Type 0} → WorkFault → Result A WorkFault
+abbrev pub fault_is : {A : Type 0} → WorkFault → Result A WorkFault
 fault_is x = Err x
 
-same_err : (A : Type 0) (x y : WorkFault) → fault_is {A = A} x ≡ fault_is y → x ≡ y
+pub same_err : (A : Type 0) (x y : WorkFault) → fault_is {A = A} x ≡ fault_is y → x ≡ y
 same_err A x y e = cc
 
 carried : (A B : Type 0) (x fault : WorkFault) → Fails fault (fault_is {A = A} x) → Fails fault (fault_is {A = B} x)

@@ -15,11 +15,11 @@ use Rattle.workload.specs.Forms.{Form, OfOp, OfOrder, OfPicks, OfRandom, an_op, 
 use Rattle.workload.specs.Meaning.{IsNumber, IsKey, IsOpForm, IsOrderForm, AreNumbers, IsForm}
 use Rattle.workload.specs.Outcome.{◌>>=◌}
 use Rattle.workload.specs.Spelling.{number_text, number_key_text, verb_text, body_text, op_text, order_text, spaced, form_text}
-use Rattle.workload.specs.Words.{pieces, cut_at, number_of, numbers_of, verb_of, number_and_key, put_words}
+use Rattle.workload.specs.Words.{lacks, pieces, cut_at, number_of, numbers_of, verb_of, number_and_key, put_words}
 use Rattle.workload.specs.declared.words.Verb.{Verb}
 use Rattle.workload.specs.declared.words.Verb.TheVariants.{Get, Put, Del, Admit, Evict, Snap, Stop, Picks, Random}
 use Rattle.workload.proofs.Numbers.{and_true, both_true}
-use Rattle.workload.proofs.Spelled.{some_is, bind_some, lacks, lacks_join, visible_lacks, cut_takes, number_is, number_lacks, key_lacks, IsBodyText, number_key_words, FitsNumberKey, number_key_is, put_text, FitsPut, put_is, numbers_text, numbers_is}
+use Rattle.workload.proofs.Spelled.{some_is, bind_some, lacks_join, visible_lacks, cut_takes, number_is, number_lacks, key_lacks, IsBodyText, number_key_words, FitsNumberKey, number_key_is, put_text, FitsPut, put_is, numbers_text, numbers_is}
 
 -- ---- the first word
 

@@ -11,14 +11,14 @@ use Rattle.workload.specs.Meaning.{IsNumber}
 use Rattle.workload.specs.Outcome.{◌>>=◌, ◌andthen◌}
 use Rattle.workload.specs.Reading.{Lines, next_line, titled, title_of, sized_by, sized, size_of, head_of}
 use Rattle.workload.specs.Spelling.{number_line, head_text, line_end}
-use Rattle.workload.specs.Words.{pieces, behind, named, number_of}
+use Rattle.workload.specs.Words.{lacks, pieces, behind, named, number_of}
 use Rattle.workload.specs.declared.fault.Limit.{Limit}
 use Rattle.workload.specs.declared.fault.Limit.TheVariants.{Clients, Servers, Slots, Hot}
 use Rattle.workload.specs.declared.fault.WorkFault.{WorkFault}
 use Rattle.workload.specs.declared.fault.WorkFault.TheVariants.{BadLine, TooLarge}
 use Rattle.workload.proofs.ByLine.{same_ok}
 use Rattle.workload.proofs.LineLaws.{bind_ok, line_again, IsLine, line_takes}
-use Rattle.workload.proofs.Spelled.{bind_some, if_some, lacks, lacks_join, number_is, number_lacks}
+use Rattle.workload.proofs.Spelled.{bind_some, if_some, lacks_join, number_is, number_lacks}
 
 behind_takes : (name text rest : List ℕ) → behind name text ≡ Some rest → text ≡ name ++ rest
 behind_takes name text rest e =

@@ -13,3 +13,4 @@ pub mod HeadLaws
 pub mod StepLaws
 pub mod ReadingLaws
 pub mod PrintedLaws
+pub mod FaultLaws

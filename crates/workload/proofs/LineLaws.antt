@@ -8,14 +8,14 @@ use Rattle.workload.specs.Meaning.{IsForm}
 use Rattle.workload.specs.Outcome.{◌andthen◌}
 use Rattle.workload.specs.Reading.{Lines, next_line, line_step, at_end, body_from}
 use Rattle.workload.specs.Spelling.{form_text, line_text, lines_text, line_end}
-use Rattle.workload.specs.Words.{pieces, cut_at}
+use Rattle.workload.specs.Words.{lacks, pieces, cut_at}
 use Rattle.workload.specs.WorkView.{WorkView}
 use Rattle.workload.specs.declared.fault.WorkFault.{WorkFault}
 use Rattle.workload.specs.declared.fault.WorkFault.TheVariants.{BadLine}
 use Rattle.workload.proofs.ByLine.{found, same_ok}
 use Rattle.workload.proofs.FormLaws.{form_takes, form_again, form_lacks}
 use Rattle.workload.proofs.Pieces.{pieces_by, pieces_cut, some_piece}
-use Rattle.workload.proofs.Spelled.{lacks, cut_takes, pieces_more, joined, pieces_join}
+use Rattle.workload.proofs.Spelled.{cut_takes, pieces_more, joined, pieces_join}
 
 pub bind_ok : {A B : Type 0} (r : Result A WorkFault) (f : A → Result B WorkFault) (y : B) → (r andthen f) ≡ Ok y → (x : A) × (r ≡ Ok x) × (f x ≡ Ok y)
 bind_ok (Ok x) f y e = (x, refl, e)
@@ -53,7 +53,7 @@ abbrev pub steps : ℕ → WorkView → List Form → Result WorkView WorkFault
 steps n w [] = Ok w
 steps n w (form ∷ forms) = step (n + 1) w form andthen λ read. steps (n + 1) read forms
 
-body_step : (n : ℕ) (w : WorkView) (line : List ℕ) (rest : List ℕ) → body_from n w (line ∷ pieces 10 rest) ≡ (line_step (n + 1) w line andthen λ read. body_from (n + 1) read (pieces 10 rest))
+pub body_step : (n : ℕ) (w : WorkView) (line : List ℕ) (rest : List ℕ) → body_from n w (line ∷ pieces 10 rest) ≡ (line_step (n + 1) w line andthen λ read. body_from (n + 1) read (pieces 10 rest))
 unfolding body_from
 body_step n w line rest =
     let p = some_piece 10 rest in
@@ -84,7 +84,7 @@ pub record AreForms (n : ℕ) (w : WorkView) (lines : Lines) (read : WorkView) :
   pub fit : AllByRecursion IsForm forms
   pub steps : steps n w forms ≡ Ok read
 
-some_form : (n : ℕ) (w : WorkView) (found : Option Form) (read : WorkView) → step_by n w found ≡ Ok read → (form : Form) × (found ≡ Some form) × (step n w form ≡ Ok read)
+pub some_form : (n : ℕ) (w : WorkView) (found : Option Form) (read : WorkView) → step_by n w found ≡ Ok read → (form : Form) × (found ≡ Some form) × (step n w form ≡ Ok read)
 some_form n w None read e = absurd cc
 some_form n w (Some form) read e = (form, refl, e)
 

@@ -20,7 +20,7 @@ use Rattle.workload.proofs.LineLaws.{bind_ok, steps, body_takes, body_again}
 use Rattle.workload.proofs.Spelled.{joined, pieces_join}
 use Rattle.workload.proofs.StepLaws.{AddsForms, steps_take, steps_again}
 
-empty_within : (config : Config) → IsConfig config → IsWithin (empty_work config)
+pub empty_within : (config : Config) → IsConfig config → IsWithin (empty_work config)
 empty_within config h = record {
   plain = record {
     plan = record { config = h; count = omega arith; ops = tt; slot_orders = omega arith; snaps = omega arith; stops = omega arith; steps = tt };

@@ -14,7 +14,7 @@ use Rattle.workload.specs.Number.{is_digit, is_number, value_from}
 use Rattle.workload.specs.Outcome.{◌>>=◌}
 use Rattle.workload.specs.Reading.{Lines}
 use Rattle.workload.specs.Spelling.{number_text, spaced}
-use Rattle.workload.specs.Words.{with_byte, pieces, until, ended, cut_at, number_of, key_of, body_of, numbers_of, number_and_key, put_words}
+use Rattle.workload.specs.Words.{with_byte, pieces, until, ended, cut_at, lacks, number_of, key_of, body_of, numbers_of, number_and_key, put_words}
 use Rattle.workload.proofs.Numbers.{and_true, both_true, value_small, value_spelled, decimal_is_number, decimal_value}
 use Rattle.workload.proofs.Generated.{number_visible}
 use Rattle.workload.proofs.Pieces.{some_piece}
@@ -34,9 +34,6 @@ if_some true x y e = (refl, cc)
 if_some false x y e = absurd cc
 
 -- ---- a byte that does not occur
-
-abbrev pub lacks : ℕ → List ℕ → Bool
-lacks mark bytes = list_all (λ b. not (nat_eq b mark)) bytes
 
 pub lacks_join : (mark : ℕ) (xs ys : List ℕ) → lacks mark xs ≡ true → lacks mark ys ≡ true → lacks mark (xs ++ ys) ≡ true
 lacks_join mark [] ys h k = k

@@ -9,5 +9,6 @@ pub mod Spelling
 pub mod Rows
 pub mod Plain
 pub mod Meaning
+pub mod Faults
 pub mod Draws
 pub mod Picks

@@ -1,5 +1,5 @@
 -- The words of a text and what they spell.
-use Rattle.std.specs.Prelude.{ℕ, suc, List, [], ◌∷◌, length, take, drop, Option, Some, None, nat_le, nat_eq, bytes_eq, ◌&&◌, if◌then◌else◌, codes}
+use Rattle.std.specs.Prelude.{ℕ, suc, Bool, not, List, [], ◌∷◌, length, take, drop, Option, Some, None, nat_le, nat_eq, bytes_eq, ◌&&◌, if◌then◌else◌, codes}
 use Rattle.std.specs.List.{list_all}
 use Rattle.far_base.specs.Key.{is_visible, is_key_text}
 use Rattle.far_base.specs.Padded.{padded}
@@ -32,6 +32,10 @@ ended front (end ∷ rest) = Some (front, rest)
 -- what stands before the first `mark`, and what stands behind it
 abbrev pub cut_at : ℕ → List ℕ → Option (List ℕ × List ℕ)
 cut_at mark bytes = ended (take (until mark bytes) bytes) (drop (until mark bytes) bytes)
+
+-- the byte does not occur
+abbrev pub lacks : ℕ → List ℕ → Bool
+lacks mark bytes = list_all (λ b. not (nat_eq b mark)) bytes
 
 -- ---- single words
 

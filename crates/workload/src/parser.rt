@@ -7,6 +7,8 @@ ghost use Rattle.workload.specs.Forms.{op_counted, order_step, passed, step_by, 
 ghost use Rattle.workload.specs.Reading.{line_step, reading};
 ghost use Rattle.workload.specs.Meaning.{IsReading, IsReadAs};
 ghost use Rattle.workload.specs.Plain.{IsPlain};
+ghost use Rattle.workload.specs.Faults.{HasFault, Blames, IsFoundAs};
+ghost use Rattle.workload.specs.declared.fault.WorkFault.{WorkFault};
 ghost use Rattle.workload.specs.WorkView.{WorkView};
 ghost use Rattle.workload.specs.Joining.{client_in, pushed, joined_from};
 ghost use Rattle.workload.specs.declared.words.Verb.TheVariants.{Get, Put, Del, Admit, Evict, Snap, Stop, Picks, Random};
@@ -281,6 +283,10 @@ pub fn parse(alloc: Global, text: &[u8]) -> Result<Workload, WorkFault>
     // A text that is a workload is read as it, unless memory is refused.
     ensures only { (w : WorkView) → IsReading text.now w → IsReadAs result w }
     ensures plain { IfOk result (λ w. IsPlain w) }
+    // A fault that is named is that of the first faulty line.
+    ensures fault { Blames result (HasFault text.now) }
+    // The first faulty line is named with its fault, unless memory is refused.
+    ensures first { (fault : WorkFault) → HasFault text.now fault → IsFoundAs result fault }
 {
     read_text(alloc, text)
 }

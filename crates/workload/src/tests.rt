@@ -1,13 +1,6 @@
 use super::*;
 use std::test::Fail;
 
-fn fault_of(rt: &HostRuntime, text: &[u8]) -> Option<WorkFault> {
-    match parse(rt.alloc(), text) {
-        Ok(_) => None,
-        Err(fault) => Some(fault),
-    }
-}
-
 #[test]
 fn what_was_read_prints_as_it_was(rt: HostRuntime) -> Result<(), Fail> {
     for text in [
@@ -51,7 +44,7 @@ fn the_first_fault_decides(rt: HostRuntime) {
             WorkFault::BadLine(7),
         ),
     ] {
-        assert!(rt; fault_of(&rt, text) == Some(fault));
+        assert!(rt; matches!(parse(rt.alloc(), text), Err(found) if found == fault));
     }
 }
 
