@@ -1,6 +1,6 @@
 -- Reading line by line, as the loop does.
-use Rattle.std.proofs.Common.{◌≡◌, ℕ, zero, suc, ◌+◌, ◌<◌, ◌≤◌, Bool, true, false, cond, List, [], ◌∷◌, ◌++◌, length, refl, sym, ap, subst, ◌∙◌, arith}
-use Rattle.std.specs.Prelude.{Option, Some, None, Result, Ok, Err, nat_eq, ⊤}
+use Rattle.std.proofs.Common.{◌≡◌, ℕ, ◌+◌, ◌≤◌, true, false, cond, List, [], ◌∷◌, length, refl, ap, subst, ◌∙◌, arith}
+use Rattle.std.specs.Prelude.{Result, Ok, Err, nat_eq, ⊤}
 use Rattle.workload.specs.Outcome.{◌andthen◌, Fails}
 use Rattle.workload.specs.Words.{pieces, with_byte}
 use Rattle.workload.specs.Reading.{Lines, next_line, line_step, body_from, reading}

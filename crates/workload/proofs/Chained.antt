@@ -1,13 +1,12 @@
 -- Texts written one behind the other.
-use Rattle.std.proofs.Common.{◌≡◌, ℕ, List, [], ◌∷◌, ◌++◌, map, refl, sym, ap, ◌∙◌, append_assoc}
+use Rattle.std.proofs.Common.{◌≡◌, ℕ, List, [], ◌++◌, map, sym, ap, ◌∙◌, append_assoc}
 use Rattle.std.specs.Prelude.{Result, Ok, Err, IfOk, Option}
-use Rattle.std.specs.List.{flat_map}
 use Rattle.std.proofs.lemmas.Grind.{flat_map-append}
 use Rattle.far_base.specs.declared.plan.Config.{Config}
 use Rattle.far_base.specs.declared.plan.OpLine.{OpLine}
 use Rattle.far_base.specs.declared.plan.Order.{Order}
 use Rattle.workload.specs.Forms.{Form, OfOp, OfOrder, OfPicks}
-use Rattle.workload.specs.Spelling.{line_text, lines_text, head_text, rows, random_forms, forms_of, spelling}
+use Rattle.workload.specs.Spelling.{line_text, lines_text, head_text, rows, random_forms, spelling}
 use Rattle.workload.specs.WorkView.{WorkView}
 
 pub ok_then : {A E : Type 0} (r : Result A E) (P Q : Type 0) → (P → Q) → IfOk r (λ _. P) → IfOk r (λ _. Q)

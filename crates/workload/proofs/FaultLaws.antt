@@ -1,13 +1,13 @@
 -- The fault that reading names is that of the first faulty line.
-use Rattle.std.proofs.Common.{◌≡◌, ◌⊎◌, inl, inr, ℕ, zero, suc, ◌+◌, ◌≤◌, Bool, true, false, not, cond, List, [], ◌∷◌, ◌++◌, length, refl, sym, ap, subst, ◌∙◌, arith, append_assoc}
-use Rattle.std.specs.Prelude.{Option, Some, None, Result, Ok, Err, nat_eq}
-use Rattle.std.specs.List.{flat_map, AllByRecursion}
+use Rattle.std.proofs.Common.{◌≡◌, ◌⊎◌, inl, inr, ℕ, suc, ◌+◌, true, false, not, cond, List, [], ◌∷◌, ◌++◌, length, refl, sym, ap, ◌∙◌, arith, append_assoc}
+use Rattle.std.specs.Prelude.{Result, Ok, Err, nat_eq}
+use Rattle.std.specs.List.{AllByRecursion}
 use Rattle.far_base.specs.declared.plan.Config.{Config}
-use Rattle.workload.specs.Faults.{IsOpen, IsFaulty, IsFirstFault, HasFault, Blames, IsFoundAs}
+use Rattle.workload.specs.Faults.{IsOpen, IsFaulty, HasFault, Blames, IsFoundAs}
 use Rattle.workload.specs.Forms.{Form, form_of, step, step_by}
 use Rattle.workload.specs.Meaning.{IsForm, IsReading}
 use Rattle.workload.specs.Outcome.{◌andthen◌, Gives}
-use Rattle.workload.specs.Reading.{Lines, head_of, line_step, at_end, body_from, empty_work, reading}
+use Rattle.workload.specs.Reading.{Lines, head_of, line_step, body_from, empty_work, reading}
 use Rattle.workload.specs.Spelling.{head_text, form_text, line_end, lines_text}
 use Rattle.workload.specs.Words.{with_byte, pieces, lacks}
 use Rattle.workload.specs.WorkView.{WorkView}
@@ -18,7 +18,6 @@ use Rattle.workload.proofs.FormLaws.{form_takes, form_again, form_lacks}
 use Rattle.workload.proofs.HeadLaws.{head_takes, head_again}
 use Rattle.workload.proofs.LineLaws.{bind_ok, steps, some_form, body_step}
 use Rattle.workload.proofs.Numbers.{both_true}
-use Rattle.workload.proofs.Pieces.{some_piece}
 use Rattle.workload.proofs.ReadingLaws.{empty_within}
 use Rattle.workload.proofs.Spelled.{joined, pieces_join, pieces_word, pieces_more}
 use Rattle.workload.proofs.StepLaws.{AddsForms, steps_take, steps_again}

@@ -1,25 +1,23 @@
 -- A line after the head has at most one form, and each form one spelling.
-use Rattle.std.proofs.Common.{◌≡◌, ℕ, ◌+◌, ◌≤◌, Bool, true, false, not, ◌&&◌, cond, List, [], ◌∷◌, ◌++◌, length, refl, sym, ap, subst, ◌∙◌, arith, append_assoc}
-use Rattle.std.specs.Prelude.{Option, Some, None, IsTrue, codes, decimal, bytes_eq}
-use Rattle.std.specs.List.{list_all, AllByRecursion}
+use Rattle.std.proofs.Common.{◌≡◌, ℕ, ◌≤◌, true, false, cond, List, [], ◌∷◌, ◌++◌, length, refl, sym, ap, subst, ◌∙◌, arith, append_assoc}
+use Rattle.std.specs.Prelude.{Option, Some, None, codes, decimal, bytes_eq}
+use Rattle.std.specs.List.{AllByRecursion}
 use Rattle.std.proofs.lemmas.List.{append-nil}
 use Rattle.std.proofs.lemmas.Slice.Eq.{bytes_eq-Decides}
-use Rattle.far_base.specs.Key.{is_visible, key_text}
+use Rattle.far_base.specs.Key.{key_text}
 use Rattle.far_base.specs.Limits.{FitsOp}
 use Rattle.far_base.specs.declared.plan.Op.{Op}
 use Rattle.far_base.specs.declared.plan.Op.TheVariants.{Get as GetOp, Put as PutOp, Del as DelOp}
-use Rattle.far_base.specs.declared.plan.OpLine.{OpLine}
 use Rattle.far_base.specs.declared.plan.Order.{Order}
 use Rattle.far_base.specs.declared.plan.Order.TheVariants.{Admit as AdmitOrder, Evict as EvictOrder, Snap as SnapOrder, Stop as StopOrder}
 use Rattle.workload.specs.Forms.{Form, OfOp, OfOrder, OfPicks, OfRandom, an_op, form_by, form_of}
 use Rattle.workload.specs.Meaning.{IsNumber, IsKey, IsOpForm, IsOrderForm, AreNumbers, IsForm}
 use Rattle.workload.specs.Outcome.{◌>>=◌}
-use Rattle.workload.specs.Spelling.{number_text, number_key_text, verb_text, body_text, op_text, order_text, spaced, form_text}
+use Rattle.workload.specs.Spelling.{number_key_text, verb_text, body_text, op_text, order_text, spaced, form_text}
 use Rattle.workload.specs.Words.{lacks, pieces, cut_at, number_of, numbers_of, verb_of, number_and_key, put_words}
 use Rattle.workload.specs.declared.words.Verb.{Verb}
 use Rattle.workload.specs.declared.words.Verb.TheVariants.{Get, Put, Del, Admit, Evict, Snap, Stop, Picks, Random}
-use Rattle.workload.proofs.Numbers.{and_true, both_true}
-use Rattle.workload.proofs.Spelled.{some_is, bind_some, lacks_join, visible_lacks, cut_takes, number_is, number_lacks, key_lacks, IsBodyText, number_key_words, FitsNumberKey, number_key_is, put_text, FitsPut, put_is, numbers_text, numbers_is}
+use Rattle.workload.proofs.Spelled.{some_is, bind_some, lacks_join, visible_lacks, cut_takes, number_is, number_lacks, key_lacks, number_key_words, number_key_is, put_text, put_is, numbers_text, numbers_is}
 
 -- ---- the first word
 

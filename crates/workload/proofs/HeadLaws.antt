@@ -1,5 +1,5 @@
 -- The first five lines have one spelling.
-use Rattle.std.proofs.Common.{◌≡◌, ℕ, ◌+◌, ◌≤◌, ◌<◌, Bool, true, false, cond, List, [], ◌∷◌, ◌++◌, length, take, drop, refl, sym, ap, subst, ◌∙◌, arith, append_assoc}
+use Rattle.std.proofs.Common.{◌≡◌, ℕ, ◌+◌, ◌≤◌, true, false, cond, List, ◌∷◌, ◌++◌, length, take, drop, refl, sym, ap, subst, ◌∙◌, arith, append_assoc}
 use Rattle.std.specs.Prelude.{Option, Some, None, Result, Ok, Err, nat_lt, codes, decimal, bytes_eq}
 use Rattle.std.proofs.lemmas.Bool.Decides.{nat_tests}
 use Rattle.std.proofs.lemmas.List.{take_at, drop_at, take-append-drop}
@@ -17,7 +17,7 @@ use Rattle.workload.specs.declared.fault.Limit.TheVariants.{Clients, Servers, Sl
 use Rattle.workload.specs.declared.fault.WorkFault.{WorkFault}
 use Rattle.workload.specs.declared.fault.WorkFault.TheVariants.{BadLine, TooLarge}
 use Rattle.workload.proofs.ByLine.{same_ok}
-use Rattle.workload.proofs.LineLaws.{bind_ok, line_again, IsLine, line_takes}
+use Rattle.workload.proofs.LineLaws.{bind_ok, line_again, line_takes}
 use Rattle.workload.proofs.Spelled.{bind_some, if_some, lacks_join, number_is, number_lacks}
 
 behind_takes : (name text rest : List ℕ) → behind name text ≡ Some rest → text ≡ name ++ rest

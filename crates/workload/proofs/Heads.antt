@@ -1,7 +1,6 @@
 -- The first five lines, one after the other.
 use Rattle.std.proofs.Common.{◌≡◌, ℕ, ◌+◌, refl}
-use Rattle.std.specs.Prelude.{Result, Ok, Err, codes}
-use Rattle.far_base.specs.declared.plan.Config.{Config}
+use Rattle.std.specs.Prelude.{Ok, codes}
 use Rattle.far_base.specs.declared.plan.TheConstants.{CLIENT_LIMIT, SERVER_LIMIT, SLOT_LIMIT, HOT_LIMIT}
 use Rattle.workload.specs.Outcome.{◌andthen◌, Fails}
 use Rattle.workload.specs.Reading.{Lines, title_of, size_of, head_of}

@@ -1,11 +1,11 @@
 -- Picks are joined one by one, and a fault decides only at the end of the line.
-use Rattle.std.proofs.Common.{◌≡◌, ℕ, zero, suc, ◌+◌, ◌<◌, ◌≤◌, Bool, true, false, cond, List, [], ◌∷◌, ◌++◌, length, refl, sym, ap, subst, ◌∙◌, arith, append_assoc}
+use Rattle.std.proofs.Common.{◌≡◌, ℕ, suc, ◌+◌, ◌<◌, ◌≤◌, Bool, true, false, cond, List, [], ◌∷◌, ◌++◌, length, refl, sym, ap, ◌∙◌, arith, append_assoc}
 use Rattle.std.specs.Prelude.{Option, Some, None, Result, Ok, Err, nat_le, nat_lt, if◌then◌else◌}
 use Rattle.std.proofs.lemmas.Bool.Decides.{nat_tests}
 use Rattle.std.proofs.lemmas.List.{length-append}
 use Rattle.workload.specs.Outcome.{◌>>=◌, ◌andthen◌, Gives, Fails}
 use Rattle.workload.specs.Words.{pieces, cut_at, number_of, numbers_of}
-use Rattle.workload.specs.Forms.{Form, OfPicks, step_by, with_picks, form_by}
+use Rattle.workload.specs.Forms.{OfPicks, step_by, with_picks, form_by}
 use Rattle.workload.specs.Joining.{pushed_by, pushed, whole, joined_from}
 use Rattle.workload.specs.Reading.{Lines}
 use Rattle.workload.specs.WorkView.{WorkView}

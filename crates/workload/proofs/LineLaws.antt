@@ -1,21 +1,19 @@
 -- Lines of a text: each whole line ends at the first line end.
-use Rattle.std.proofs.Common.{◌≡◌, ℕ, ◌+◌, Bool, true, false, cond, List, [], ◌∷◌, ◌++◌, length, take, drop, refl, sym, ap, subst, ◌∙◌, arith, append_assoc}
+use Rattle.std.proofs.Common.{◌≡◌, ℕ, ◌+◌, true, List, [], ◌∷◌, ◌++◌, refl, sym, ap, subst, ◌∙◌, append_assoc}
 use Rattle.std.specs.Prelude.{Option, Some, None, Result, Ok, Err}
 use Rattle.std.specs.List.{AllByRecursion}
-use Rattle.std.proofs.lemmas.List.{append-nil}
 use Rattle.workload.specs.Forms.{Form, form_of, step, step_by}
 use Rattle.workload.specs.Meaning.{IsForm}
 use Rattle.workload.specs.Outcome.{◌andthen◌}
-use Rattle.workload.specs.Reading.{Lines, next_line, line_step, at_end, body_from}
-use Rattle.workload.specs.Spelling.{form_text, line_text, lines_text, line_end}
+use Rattle.workload.specs.Reading.{Lines, next_line, line_step, body_from}
+use Rattle.workload.specs.Spelling.{form_text, lines_text, line_end}
 use Rattle.workload.specs.Words.{lacks, pieces, cut_at}
 use Rattle.workload.specs.WorkView.{WorkView}
 use Rattle.workload.specs.declared.fault.WorkFault.{WorkFault}
-use Rattle.workload.specs.declared.fault.WorkFault.TheVariants.{BadLine}
-use Rattle.workload.proofs.ByLine.{found, same_ok}
+use Rattle.workload.proofs.ByLine.{same_ok}
 use Rattle.workload.proofs.FormLaws.{form_takes, form_again, form_lacks}
 use Rattle.workload.proofs.Pieces.{pieces_by, pieces_cut, some_piece}
-use Rattle.workload.proofs.Spelled.{cut_takes, pieces_more, joined, pieces_join}
+use Rattle.workload.proofs.Spelled.{cut_takes, pieces_more, joined}
 
 pub bind_ok : {A B : Type 0} (r : Result A WorkFault) (f : A → Result B WorkFault) (y : B) → (r andthen f) ≡ Ok y → (x : A) × (r ≡ Ok x) × (f x ≡ Ok y)
 bind_ok (Ok x) f y e = (x, refl, e)

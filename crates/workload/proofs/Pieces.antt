@@ -1,6 +1,6 @@
 -- Cutting at a byte gives the first piece and the others.
-use Rattle.std.proofs.Common.{◌≡◌, ℕ, zero, suc, ◌+◌, ◌<◌, Bool, true, false, cond, List, [], ◌∷◌, ◌++◌, length, take, drop, refl, sym, ap, subst, ◌∙◌, arith}
-use Rattle.std.specs.Prelude.{Option, Some, None, Result, Ok, Err, nat_eq}
+use Rattle.std.proofs.Common.{◌≡◌, ℕ, suc, ◌+◌, true, false, cond, List, [], ◌∷◌, take, drop, refl, ap, ◌∙◌}
+use Rattle.std.specs.Prelude.{Option, Some, None, Ok, Err, nat_eq}
 use Rattle.workload.specs.Words.{with_byte, pieces, until, ended, cut_at}
 use Rattle.workload.specs.Reading.{Lines, next_line}
 use Rattle.workload.specs.declared.fault.WorkFault.TheVariants.{BadLine}

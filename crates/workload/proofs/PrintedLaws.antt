@@ -1,5 +1,5 @@
 -- What is printed reads as the workload again.
-use Rattle.std.proofs.Common.{◌≡◌, ℕ, zero, suc, ◌-◌, ◌≤◌, List, [], ◌∷◌, ◌++◌, length, map, refl, sym, ap, subst, ◌∙◌, arith, append_assoc}
+use Rattle.std.proofs.Common.{◌≡◌, ℕ, zero, suc, ◌-◌, ◌≤◌, List, [], ◌∷◌, ◌++◌, map, refl, sym, ap, subst, ◌∙◌, arith}
 use Rattle.std.specs.Prelude.{Option, Some, None}
 use Rattle.std.specs.List.{flat_map, AllByRecursion}
 use Rattle.std.proofs.lemmas.Grind.{flat_map-append}
@@ -11,8 +11,8 @@ use Rattle.far_base.specs.declared.plan.OpLine.{OpLine}
 use Rattle.far_base.specs.declared.plan.Order.{Order}
 use Rattle.far_base.specs.declared.plan.Order.TheVariants.{Admit, Evict, Snap, Stop}
 use Rattle.far_base.specs.declared.plan.TheConstants.{CLIENT_LIMIT, STEP_LIMIT}
-use Rattle.workload.specs.Forms.{Form, OfOp, OfOrder, OfPicks, OfRandom}
-use Rattle.workload.specs.Meaning.{IsNumber, IsForm, IsOrderForm, AreNumbers, IsWholeOp, IsWholeOrder, op_in, order_in, picks_in, random_in, starts, Name, IsWithin, IsReading}
+use Rattle.workload.specs.Forms.{Form, OfOp, OfOrder, OfPicks}
+use Rattle.workload.specs.Meaning.{IsNumber, IsForm, IsOrderForm, AreNumbers, IsWholeOp, IsWholeOrder, op_in, order_in, picks_in, random_in, starts, Name, IsReading}
 use Rattle.workload.specs.Plain.{IsStart, IsPlain}
 use Rattle.workload.specs.Spelling.{with_number, rows, rows_from, random_forms, forms_of, spelling}
 use Rattle.workload.specs.WorkView.{WorkView}

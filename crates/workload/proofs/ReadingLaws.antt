@@ -1,11 +1,9 @@
 -- A text reads as a workload exactly where its lines name it.
-use Rattle.std.proofs.Common.{◌≡◌, ℕ, ◌≤◌, List, [], ◌∷◌, ◌++◌, refl, sym, ap, subst, ◌∙◌, arith}
-use Rattle.std.specs.Prelude.{Option, Some, None, Result, Ok, Err, IfOk}
-use Rattle.std.specs.List.{flat_map, AllByRecursion}
-use Rattle.far_base.specs.Limits.{IsConfig, IsPlan}
+use Rattle.std.proofs.Common.{◌≡◌, ℕ, List, ◌++◌, refl, sym, ap, ◌∙◌, arith}
+use Rattle.std.specs.Prelude.{Result, Ok, Err, IfOk}
+use Rattle.far_base.specs.Limits.{IsConfig}
 use Rattle.far_base.specs.declared.plan.Config.{Config}
-use Rattle.workload.specs.Forms.{Form}
-use Rattle.workload.specs.Meaning.{IsForm, op_in, order_in, picks_in, random_in, Name, IsWithin, IsReading, IsReadAs}
+use Rattle.workload.specs.Meaning.{IsWithin, IsReading, IsReadAs}
 use Rattle.workload.specs.Outcome.{◌andthen◌, Gives}
 use Rattle.workload.specs.Plain.{IsPlain}
 use Rattle.workload.specs.Reading.{Lines, head_of, body_from, empty_work, reading}
@@ -16,7 +14,7 @@ use Rattle.workload.specs.declared.fault.WorkFault.{WorkFault}
 use Rattle.workload.specs.declared.fault.WorkFault.TheVariants.{BadLine, TooLarge, Memory}
 use Rattle.workload.proofs.ByLine.{same_ok}
 use Rattle.workload.proofs.HeadLaws.{head_takes, head_again}
-use Rattle.workload.proofs.LineLaws.{bind_ok, steps, body_takes, body_again}
+use Rattle.workload.proofs.LineLaws.{bind_ok, body_takes, body_again}
 use Rattle.workload.proofs.Spelled.{joined, pieces_join}
 use Rattle.workload.proofs.StepLaws.{AddsForms, steps_take, steps_again}
 

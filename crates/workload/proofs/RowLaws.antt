@@ -1,12 +1,10 @@
 -- Rows of picks, written one by one.
-use Rattle.std.proofs.Common.{◌≡◌, ℕ, zero, suc, ◌+◌, ◌-◌, ◌<◌, ◌≤◌, Bool, true, false, cond, List, [], ◌∷◌, ◌++◌, length, map, refl, sym, ap, subst, ◌∙◌, arith, append_assoc, drop, get_or, add-one}
+use Rattle.std.proofs.Common.{◌≡◌, ℕ, zero, suc, ◌+◌, ◌-◌, ◌<◌, ◌≤◌, true, false, List, [], ◌∷◌, ◌++◌, length, map, refl, sym, ap, subst, ◌∙◌, arith, append_assoc, drop, get_or, add-one}
 use Rattle.std.specs.Prelude.{nat_eq, codes, decimal}
-use Rattle.std.specs.List.{flat_map}
 use Rattle.std.proofs.Math.Seq.{drop-cons}
 use Rattle.std.proofs.lemmas.Bool.Decides.{nat_tests}
-use Rattle.std.proofs.lemmas.List.{append-nil}
 use Rattle.workload.specs.Forms.{OfPicks}
-use Rattle.workload.specs.Spelling.{number_text, spaced, line_end, lines_text, line_text, with_number, rows, rows_from}
+use Rattle.workload.specs.Spelling.{number_text, spaced, line_end, lines_text, with_number, rows_from}
 use Rattle.workload.specs.Rows.{pick_text, next_place, open_text, rest_text}
 use Rattle.workload.specs.declared.printer.TheConstants.{PICKS_PER_LINE}
 

@@ -1,5 +1,5 @@
 -- Words, and what is spelled by several of them: each has one spelling.
-use Rattle.std.proofs.Common.{◌≡◌, ℕ, zero, suc, ◌-◌, ◌^◌, ◌<◌, ◌≤◌, Bool, true, false, not, ◌&&◌, cond, List, [], ◌∷◌, ◌++◌, length, take, drop, map, replicate, refl, sym, ap, subst, ◌∙◌, arith, append_assoc}
+use Rattle.std.proofs.Common.{◌≡◌, ℕ, zero, suc, ◌-◌, ◌^◌, ◌<◌, ◌≤◌, Bool, true, false, not, ◌&&◌, cond, List, [], ◌∷◌, ◌++◌, length, take, drop, replicate, refl, sym, ap, subst, ◌∙◌, arith}
 use Rattle.std.specs.Prelude.{Option, Some, None, IsTrue, nat_eq, nat_le, decimal}
 use Rattle.std.specs.List.{list_all, AllByRecursion}
 use Rattle.std.proofs.lemmas.Bool.Decides.{nat_tests}
@@ -10,10 +10,10 @@ use Rattle.far_base.specs.declared.key.TheConstants.{KEY_LENGTH}
 use Rattle.far_base.specs.declared.plan.TheConstants.{STEP_LIMIT}
 use Rattle.far_base.proofs.Keys.{padded_is_key}
 use Rattle.workload.specs.Meaning.{IsNumber, IsKey, AreNumbers}
-use Rattle.workload.specs.Number.{is_digit, is_number, value_from}
+use Rattle.workload.specs.Number.{is_number, value_from}
 use Rattle.workload.specs.Outcome.{◌>>=◌}
 use Rattle.workload.specs.Reading.{Lines}
-use Rattle.workload.specs.Spelling.{number_text, spaced}
+use Rattle.workload.specs.Spelling.{spaced}
 use Rattle.workload.specs.Words.{with_byte, pieces, until, ended, cut_at, lacks, number_of, key_of, body_of, numbers_of, number_and_key, put_words}
 use Rattle.workload.proofs.Numbers.{and_true, both_true, value_small, value_spelled, decimal_is_number, decimal_value}
 use Rattle.workload.proofs.Generated.{number_visible}

@@ -5,7 +5,7 @@ use Rattle.std.specs.List.{flat_map, count_by, AllByRecursion}
 use Rattle.std.proofs.lemmas.Bool.Decides.{nat_tests}
 use Rattle.std.proofs.lemmas.List.{append-nil, length-append}
 use Rattle.std.proofs.lemmas.List.Sums.{sum_by-append}
-use Rattle.far_base.specs.Limits.{IsConfig, IsOpLine, IsPlan, due_step, is_slot_order, is_snap, is_stop}
+use Rattle.far_base.specs.Limits.{IsOpLine, IsPlan, due_step, is_slot_order, is_snap, is_stop}
 use Rattle.far_base.specs.Padded.{length_of}
 use Rattle.far_base.specs.declared.body.TheConstants.{BODY_LIMIT}
 use Rattle.far_base.specs.declared.plan.Config.{Config}
@@ -14,17 +14,15 @@ use Rattle.far_base.specs.declared.plan.Order.{Order}
 use Rattle.far_base.specs.declared.plan.Order.TheVariants.{Admit, Evict, Snap, Stop}
 use Rattle.far_base.specs.declared.plan.TheConstants.{OP_LIMIT, ORDER_LIMIT, SNAP_LIMIT, STOP_LIMIT, STEP_LIMIT}
 use Rattle.workload.specs.Forms.{Form, OfOp, OfOrder, OfPicks, OfRandom, with_op, with_order, with_picks, with_random, op_counted, op_short, op_step, passed, unless, order_step, picks_step, random_by, step}
-use Rattle.workload.specs.Meaning.{IsNumber, IsOpForm, IsOrderForm, IsForm, op_in, order_in, picks_in, random_in, starts, Name, IsWithin}
+use Rattle.workload.specs.Meaning.{IsNumber, IsOpForm, IsOrderForm, IsForm, op_in, order_in, picks_in, random_in, starts, IsWithin}
 use Rattle.workload.specs.Outcome.{◌andthen◌}
-use Rattle.workload.specs.Plain.{IsStart, IsPlain}
-use Rattle.workload.specs.Reading.{empty_work}
 use Rattle.workload.specs.WorkView.{WorkView}
 use Rattle.workload.specs.declared.fault.Limit.{Limit}
 use Rattle.workload.specs.declared.fault.Limit.TheVariants.{Body, Ops, Orders, Snaps, Stops, Picks as PickCount}
 use Rattle.workload.specs.declared.fault.WorkFault.{WorkFault}
 use Rattle.workload.specs.declared.fault.WorkFault.TheVariants.{BadLine, TooLarge}
 use Rattle.workload.specs.declared.load.TheConstants.{PICK_LIMIT}
-use Rattle.workload.proofs.ByLine.{found, same_ok}
+use Rattle.workload.proofs.ByLine.{same_ok}
 use Rattle.workload.proofs.LineLaws.{bind_ok, steps}
 
 -- ---- all of a list

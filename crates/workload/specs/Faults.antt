@@ -1,5 +1,5 @@
 -- Which line of a text is the first with a fault.
-use Rattle.std.specs.Prelude.{◌≡◌, ◌⊎◌, ℕ, ◌+◌, true, List, [], ◌∷◌, ◌++◌, length, Result, Ok, Err}
+use Rattle.std.specs.Prelude.{◌≡◌, ◌⊎◌, ℕ, ◌+◌, true, List, ◌∷◌, ◌++◌, length, Result, Ok, Err}
 use Rattle.workload.specs.Forms.{form_of, step_by}
 use Rattle.workload.specs.Meaning.{IsReading}
 use Rattle.workload.specs.Reading.{head_of}

@@ -3,7 +3,6 @@ use Rattle.std.specs.Prelude.{ℕ, ◌+◌, List, [], ◌∷◌, ◌++◌, lengt
 use Rattle.std.specs.List.{count_by}
 use Rattle.far_base.specs.Padded.{length_of}
 use Rattle.far_base.specs.Limits.{is_slot_order, is_snap, is_stop}
-use Rattle.far_base.specs.PlanView.{PlanView}
 use Rattle.far_base.specs.declared.body.TheConstants.{BODY_LIMIT}
 use Rattle.far_base.specs.declared.plan.Op.{Op}
 use Rattle.far_base.specs.declared.plan.Op.TheVariants.{Get as GetOp, Put as PutOp, Del as DelOp}

@@ -1,5 +1,5 @@
 -- Which workloads are plain.
-use Rattle.std.specs.Prelude.{ℕ, ◌≤◌, List, length, Option, None, Some}
+use Rattle.std.specs.Prelude.{ℕ, ◌≤◌, length, Option, None, Some}
 use Rattle.std.specs.List.{AllByRecursion}
 use Rattle.far_base.specs.Limits.{IsPlan}
 use Rattle.far_base.specs.declared.plan.TheConstants.{STEP_LIMIT}

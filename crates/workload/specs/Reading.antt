@@ -1,5 +1,5 @@
 -- Reading a text line by line: the workload, or the first fault and its line.
-use Rattle.std.specs.Prelude.{ℕ, ◌+◌, List, [], ◌∷◌, Option, Some, None, Result, Ok, Err, nat_le, nat_lt, nat_eq, length, bytes_eq, if◌then◌else◌, codes}
+use Rattle.std.specs.Prelude.{ℕ, ◌+◌, List, [], ◌∷◌, Option, Some, None, Result, Ok, Err, nat_lt, bytes_eq, if◌then◌else◌, codes}
 use Rattle.far_base.specs.declared.plan.Config.{Config}
 use Rattle.far_base.specs.declared.plan.TheConstants.{CLIENT_LIMIT, SERVER_LIMIT, SLOT_LIMIT, HOT_LIMIT}
 use Rattle.workload.specs.Outcome.{◌andthen◌}

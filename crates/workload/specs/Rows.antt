@@ -1,5 +1,5 @@
 -- Rows of picks as they are written one by one.
-use Rattle.std.specs.Prelude.{ℕ, zero, suc, ◌-◌, ◌+◌, List, [], ◌∷◌, ◌++◌, map, nat_eq, if◌then◌else◌, codes}
+use Rattle.std.specs.Prelude.{ℕ, ◌-◌, ◌+◌, List, [], ◌∷◌, ◌++◌, map, nat_eq, if◌then◌else◌, codes}
 use Rattle.workload.specs.Forms.{OfPicks}
 use Rattle.workload.specs.Spelling.{number_text, spaced, line_end, lines_text, rows, rows_from}
 use Rattle.workload.specs.declared.printer.TheConstants.{PICKS_PER_LINE}

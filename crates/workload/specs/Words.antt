@@ -1,5 +1,5 @@
 -- The words of a text and what they spell.
-use Rattle.std.specs.Prelude.{ℕ, suc, Bool, not, List, [], ◌∷◌, length, take, drop, Option, Some, None, nat_le, nat_eq, bytes_eq, ◌&&◌, if◌then◌else◌, codes}
+use Rattle.std.specs.Prelude.{ℕ, suc, Bool, not, List, [], ◌∷◌, length, take, drop, Option, Some, None, nat_eq, bytes_eq, ◌&&◌, if◌then◌else◌, codes}
 use Rattle.std.specs.List.{list_all}
 use Rattle.far_base.specs.Key.{is_visible, is_key_text}
 use Rattle.far_base.specs.Padded.{padded}
