@@ -17,7 +17,7 @@ use crate::fault::{Limit, WorkFault};
 use crate::lines::Lines;
 use crate::load::{PICK_LIMIT, Workload};
 use crate::words::{Verb, cut, number_and_key, number_of, put_words};
-use far_base::{Body, Key, OP_LIMIT, ORDER_LIMIT, Op, OpLine, Order, SNAP_LIMIT, STOP_LIMIT};
+use far_base::{Body, OP_LIMIT, ORDER_LIMIT, Op, OpLine, Order, SNAP_LIMIT, STOP_LIMIT};
 use std::alloc::Global;
 
 fn is_slot_order(order: &Order) -> bool
