@@ -1,0 +1,16 @@
+pub mod Numbers
+pub mod Pieces
+pub mod Generated
+pub mod Joined
+pub mod ByLine
+pub mod Heads
+pub mod RowLaws
+pub mod Chained
+pub mod Spelled
+pub mod FormLaws
+pub mod LineLaws
+pub mod HeadLaws
+pub mod StepLaws
+pub mod ReadingLaws
+pub mod PrintedLaws
+pub mod FaultLaws

@@ -1,0 +1,14 @@
+pub mod WorkView
+pub mod Number
+pub mod Outcome
+pub mod Words
+pub mod Forms
+pub mod Joining
+pub mod Reading
+pub mod Spelling
+pub mod Rows
+pub mod Plain
+pub mod Meaning
+pub mod Faults
+pub mod Draws
+pub mod Picks
