@@ -56,13 +56,45 @@ fn generated_work_and_its_picks(rt: HostRuntime) -> Result<(), Fail> {
         printed.as_slice()
             == b"far 1\nclients 16\nservers 4\nslots 256\nhot 4\nget 9 k1220\nput 12 k32 =v2\nput 3 k18 =v3\nget 0 k53\nget 10 k22\nget 8 k6\nsnap 6\nstop 12\nsnap 18\nstop 24\nrandom 7\n".as_slice()
     );
-    let mut picker = Picker::new(&load);
-    for draw in [
-        2442223337, 414063806, 2743600285, 3524868804, 2371632060, 1368306093, 671954468,
-        3804052768, 577050371, 3328487688, 2891323500, 1331013586, 4058641856, 3679627213,
-        2667227530, 97758645, 1300909050, 1247874432, 3892859953, 306414230,
-    ] {
-        assert_eq!(rt; picker.next(&load), draw);
+    Ok(())
+}
+
+/// The first twenty draws of three start numbers, by another implementation of the generator.
+const DRAWS: [(u64, [u64; 20]); 3] = [
+    (
+        7,
+        [
+            2442223337, 414063806, 2743600285, 3524868804, 2371632060, 1368306093, 671954468,
+            3804052768, 577050371, 3328487688, 2891323500, 1331013586, 4058641856, 3679627213,
+            2667227530, 97758645, 1300909050, 1247874432, 3892859953, 306414230,
+        ],
+    ),
+    (
+        0,
+        [
+            298703107, 4236525527, 336081875, 1056616254, 1060453275, 1616833669, 501767310,
+            2864049166, 56572352, 2362354238, 616791217, 116872860, 2920106405, 1980021998,
+            1017583790, 1069996065, 3975409057, 450705938, 3265891683, 1986817798,
+        ],
+    ),
+    (
+        9999999999999999999,
+        [
+            4077165616, 882470435, 2703290376, 744697708, 473318200, 4264532853, 2854586639,
+            1668661019, 646116754, 3143710423, 1477295242, 2728553741, 2233222296, 3923390105,
+            1366235239, 340825461, 2323791525, 3979561562, 1385024968, 3150405796,
+        ],
+    ),
+];
+
+#[test]
+fn picks_are_the_draws_of_the_start_number(rt: HostRuntime) -> Result<(), Fail> {
+    for (start, draws) in DRAWS {
+        let load = generate(rt.alloc(), start, 0).ok().ok_or("not generated")?;
+        let mut picker = Picker::new(&load);
+        for draw in draws {
+            assert_eq!(rt; picker.next(&load), draw);
+        }
     }
     Ok(())
 }
