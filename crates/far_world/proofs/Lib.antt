@@ -1,5 +1,5 @@
 mod Delivering
-mod Entries
+mod Bytes
 mod Histories
 mod Lists
 mod Picking

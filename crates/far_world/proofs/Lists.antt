@@ -22,13 +22,9 @@ slice_get_there [] i h = absurd (omega arith)
 slice_get_there (x ∷ xs) zero h = (x, refl)
 slice_get_there (x ∷ xs) (suc i) h = slice_get_there xs i (omega arith)
 
-pub on_ok : {A E : Type 0} → (P Q : Type 0) → (r : Result A E) → (P → Q) → OnOk r P → OnOk r Q
-on_ok P Q (Ok x) f h = f h
-on_ok P Q (Err e) f h = tt
-
-pub on_ok_all : {A E : Type 0} → (P Q S T : Type 0) → (r : Result A E) → (P → Q → S → T) → OnOk r P → OnOk r Q → OnOk r S → OnOk r T
-on_ok_all P Q S T (Ok x) f p q s = f p q s
-on_ok_all P Q S T (Err e) f p q s = tt
+pub on_any : {A E P : Type 0} → P → (r : Result A E) → OnOk r P
+on_any p (Ok x) = p
+on_any p (Err e) = tt
 
 pub and_true : (b : Bool) → (b && true) ≡ b
 and_true true = refl

@@ -1,4 +1,3 @@
-pub mod Entries
 pub mod WorldView
 pub mod RoomyBag
 pub mod Linearizable

@@ -1,5 +1,5 @@
 -- What holds of the log of every world.
-use Rattle.std.specs.Prelude.{◌≡◌, List, true}
+use Rattle.std.specs.Prelude.{List}
 use Rattle.far_base.specs.declared.log.Placed.{Placed}
 use Rattle.far_model.specs.Coherent.{IsCoherent}
 use Rattle.far_model.specs.History.{IsHistory, IsLinearizable}

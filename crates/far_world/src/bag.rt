@@ -1,23 +1,26 @@
-use far_base::{Memory, Message, Out, Party, Record};
+use far_base::{Memory, Message, Out, Party};
+use packet_codec::{decode, encode};
 use std::alloc::Global;
 use std::marker::Model;
 
-/// The messages on their way, oldest first.
+/// The messages on their way, oldest first, each in bytes. Contracts see the packets that they spell.
 #[derive(Drop)]
 pub(crate) struct Bag {
-    messages: Vec<Message>,
+    wires: wire_bag::Bag,
 }
 
 impl Model for Bag {
-    ghost use Rattle.std.specs.Prelude.{◌-◌, vec_len, vec_capacity};
-    ghost use Rattle.far_world.specs.RoomyBag.{RoomyBag};
+    ghost use Rattle.std.specs.Prelude.{map};
+    ghost use Rattle.far_world.specs.RoomyBag.{AreSpellings, RoomyBag, message_of};
 
     ghost Value = { RoomyBag };
 
-    ghost view = { λ b. record { messages = b.messages.items; room = vec_capacity b.messages - vec_len b.messages } };
+    ghost view = { λ b. record { messages = map message_of b.wires.messages; room = b.wires.spare } };
+
+    ghost invariant = { λ b. AreSpellings b.wires.messages };
 }
 
-ghost use Rattle.std.specs.Prelude.{◌≡◌, ◌+◌, ◌<◌, ◌≤◌, ◌++◌, [], ◌∷◌, length, remove, slice_get, Some, OnOk};
+ghost use Rattle.std.specs.Prelude.{◌≡◌, ◌+◌, ◌-◌, ◌^◌, ◌<◌, ◌≤◌, ◌++◌, [], ◌∷◌, length, remove, slice_get, Some, OnOk};
 ghost use Rattle.far_model.specs.Parties.{messages_from};
 ghost use Rattle.far_model.specs.Runs.{is_empty_bag};
 
@@ -27,22 +30,22 @@ impl Bag {
         ensures { result.messages ≡ [] }
     {
         Bag {
-            messages: Vec::new(alloc),
+            wires: wire_bag::Bag::new(alloc),
         }
     }
 
     /// How many messages there are.
-    pub(crate) fn len(&self) -> usize
+    pub(crate) fn len(&self) -> u32
         ensures { result ≡ length self.now.messages }
     {
-        self.messages.len()
+        self.wires.count()
     }
 
     /// Whether there are none.
     pub(crate) fn is_empty(&self) -> bool
         ensures { result ≡ is_empty_bag self.now.messages }
     {
-        self.messages.is_empty()
+        self.wires.count() == 0
     }
 
     /// Makes room for one more message.
@@ -50,38 +53,38 @@ impl Bag {
         ensures messages { self.new.messages ≡ self.old.messages }
         ensures room { OnOk result (0 < self.new.room) }
     {
-        self.messages.reserve(1)?;
-        Ok(())
+        self.wires.reserve(1)
     }
 
-    /// Adds what a party sends. There is room for one more message.
+    /// Adds what a party sends, as its spelling. There is room for one more message.
     pub(crate) fn post(&mut self, from: Party, out: &Out)
-        requires { 0 < self.old.room }
+        requires room { 0 < self.old.room }
+        requires few { length self.old.messages < 2 ^ 31 }
         ensures { self.new.messages ≡ self.old.messages ++ messages_from from (out.now ∷ []) }
     {
-        // The check wants each type that a message holds named in this function.
-        let _item: Option<Record> = None;
-        self.messages.push_reserved(Message {
-            from,
-            to: out.to,
-            packet: out.packet,
-        });
+        let wire = encode(&out.packet);
+        self.wires.put(from, out.to, wire);
     }
 
-    /// The message at the place.
-    pub(crate) fn at(&self, place: usize) -> Message
+    /// The message at the place, read from its bytes.
+    pub(crate) fn at(&self, place: u32) -> Message
         requires { place < length self.now.messages }
         ensures { slice_get self.now.messages place ≡ Some result }
     {
-        self.messages[place]
+        let (from, to, wire) = self.wires.get(place);
+        match decode(wire.bytes()) {
+            Ok(packet) => Message { from, to, packet },
+            Err(_) => unreachable!(),
+        }
     }
 
-    /// Takes the message at the place out. The later ones move down, and there is room for one more.
-    pub(crate) fn remove(&mut self, place: usize)
+    /// Takes the message at the place out. The later ones move down, and no room is lost.
+    #[tactic(auto, using(crate::proofs::Bytes::map_remove))]
+    pub(crate) fn remove(&mut self, place: u32)
         requires { place < length self.old.messages }
         ensures messages { self.new.messages ≡ remove self.old.messages place }
-        ensures room { 0 < self.new.room }
+        ensures room { self.old.room ≤ self.new.room }
     {
-        self.messages.remove(place);
+        let _taken = self.wires.take(place);
     }
 }

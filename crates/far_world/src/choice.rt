@@ -52,7 +52,7 @@ pub(crate) fn count_choices(clients: &[Client], bag: &Bag) -> u32
     requires messages { length bag.now.messages < 2 ^ 31 }
     ensures { result ≡ length (possible clients.now bag.now.messages) }
 {
-    count_senders(clients) + bag.len() as u32
+    count_senders(clients) + bag.len()
 }
 
 /// The event that the pick chooses among those that can happen: sends by rising client, and then

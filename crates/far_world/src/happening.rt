@@ -1,4 +1,4 @@
-ghost use Rattle.std.specs.Prelude.{vec_len, vec_capacity, ◌≡◌, ◌≢◌, ◌+◌, ◌-◌, ◌<◌, ◌≤◌, ◌^◌, ◌++◌, ℕ, [], ◌∷◌, length, map, remove, slice_get, slice_set, slice_index_or, Some, None, IsTrue, IfSome, OnOk, OnErr, option_to_list};
+ghost use Rattle.std.specs.Prelude.{vec_len, vec_capacity, ◌≡◌, ◌≢◌, ◌+◌, ◌-◌, ◌<◌, ◌≤◌, ◌^◌, ◌++◌, ℕ, [], ◌∷◌, length, map, remove, slice_get, slice_set, slice_index_or, Some, None, IsTrue, IfSome, OnOk, OnErr, IsErrOf, is_some, option_to_list};
 ghost use Rattle.far_base.specs.declared.log.LogEntry.TheVariants.{Sent, Answered};
 ghost use Rattle.far_base.specs.declared.packet.Message.{Message};
 ghost use Rattle.far_base.specs.declared.party.Party.{Party};
@@ -8,21 +8,19 @@ ghost use Rattle.far_model.specs.Events as events;
 ghost use Rattle.far_model.specs.Members.{Among};
 ghost use Rattle.far_model.specs.Parties.{messages_from};
 ghost use Rattle.far_model.specs.Pass as passes;
-ghost use Rattle.far_model.specs.Servers as servers_of;
 ghost use Rattle.far_model.specs.Uncached.{GoesTo, IsUncached, IsUncachedPlan};
+ghost use Rattle.far_outside.specs.Faults.{Rose};
 ghost use Rattle.far_base.specs.declared.event.Event.{Event};
 ghost use Rattle.far_model.specs.View.{opening_view};
-ghost use Rattle.far_world.specs.Entries.{IsForward};
-ghost use Rattle.far_world.specs.WorldView.{Logs, IsOperation, answered_in, state_of, CanHappen, KnowsOperations, SameLeft};
+ghost use Rattle.far_world.specs.WorldView.{Logs, IsAfter, IsOperation, Tells, answered_in, state_of, CanHappen, KnowsOperations, SameLeft};
 
 use crate::bag::Bag;
 use crate::client::Client;
 use crate::pass::pass;
-use crate::server::Server;
-use far_base::{
-    Config, Event, LogEntry, LogLine, Memory, Op, OpLine, Out, Packet, Party, Plan, Record,
-};
+use far_base::{Config, Event, LogEntry, LogLine, Memory, Op, OpLine, Out, Packet, Party, Plan};
 use far_history::Log;
+use far_outside::Keeper;
+use server_keeper::{StepFault, server_step};
 
 /// Counts one more step, and logs what happened in it.
 fn note(log: &mut Log, entry: Option<LogEntry>)
@@ -61,6 +59,7 @@ fn send(ops: &[OpLine], client: &mut Client, number: u32, bag: &mut Bag, log: &m
     requires next { IsTrue (events.has_next client.old.left) }
     requires known { (op : ℕ) → Among op client.old.left → IsOperation ops.now op }
     requires bag_room { 0 < bag.old.room }
+    requires few { length bag.old.messages < 2 ^ 31 }
     requires log_room { 0 < log.old.room }
     requires steps { log.old.steps + 1 < 2 ^ 64 }
     ensures client { client.new ≡ (events.next_sent ops.now number client.old client.old.left).state }
@@ -83,7 +82,7 @@ fn deliver_to_switch(
     counter: &mut u64,
     bag: &mut Bag,
     log: &mut Log,
-    place: usize,
+    place: u32,
     packet: &Packet,
 )
     requires servers { 0 < config.now.servers }
@@ -91,6 +90,8 @@ fn deliver_to_switch(
     requires counter { counter.old + 1 < 2 ^ 64 }
     requires kind { GoesTo config.now packet.now Switch }
     requires there { place < length bag.old.messages }
+    requires bag_room { 0 < bag.old.room }
+    requires few { length bag.old.messages < 2 ^ 31 }
     requires log_room { 0 < log.old.room }
     requires steps { log.old.steps + 1 < 2 ^ 64 }
     ensures counter { (passes.pass (opening_view config.now 1 counter.old) packet.now).view ≡ opening_view config.now 1 counter.new }
@@ -104,35 +105,23 @@ fn deliver_to_switch(
     note(log, passed.note);
 }
 
-/// The message at the place is taken out, and the server handles it.
-fn deliver_to_server(
-    server: &mut Server,
-    number: u32,
-    bag: &mut Bag,
-    log: &mut Log,
-    place: usize,
-    packet: &Packet,
-) -> Result<(), Memory>
-    requires kind { IsForward packet.now }
+/// The message at the place is taken out, and what the server answers to it goes to the switch.
+fn deliver_to_server(number: u32, bag: &mut Bag, log: &mut Log, place: u32, reply: Packet)
     requires there { place < length bag.old.messages }
+    requires bag_room { 0 < bag.old.room }
+    requires few { length bag.old.messages < 2 ^ 31 }
     requires log_room { 0 < log.old.room }
     requires steps { log.old.steps + 1 < 2 ^ 64 }
-    ensures server { OnOk result (server.new ≡ servers_of.server_keeps server.old packet.now) }
-    ensures bag { OnOk result (bag.new.messages ≡ remove bag.old.messages place ++ events.reply_message number (servers_of.server_reply number server.old packet.now)) }
-    ensures log { OnOk result (Logs log.old log.new []) }
-    ensures err_server { OnErr result (server.new ≡ server.old) }
-    ensures err_bag { OnErr result (bag.new ≡ bag.old) }
-    ensures err_log { OnErr result (log.new ≡ log.old) }
+    ensures bag { bag.new.messages ≡ remove bag.old.messages place ++ record { from = Party.Server number; to = Switch; packet = reply } ∷ [] }
+    ensures log { Logs log.old log.new [] }
 {
-    let _item: Option<Record> = None;
-    let reply = Out {
-        to: Party::Switch,
-        packet: server.take(packet)?,
-    };
     bag.remove(place);
-    bag.post(Party::Server(number), &reply);
+    let out = Out {
+        to: Party::Switch,
+        packet: reply,
+    };
+    bag.post(Party::Server(number), &out);
     note(log, None);
-    Ok(())
 }
 
 /// The operation that a packet answers.
@@ -146,13 +135,7 @@ fn answered(packet: &Packet) -> Option<LogEntry>
 }
 
 /// The message at the place is taken out, and it closes the operation of its client.
-fn deliver_to_client(
-    client: &mut Client,
-    bag: &mut Bag,
-    log: &mut Log,
-    place: usize,
-    packet: &Packet,
-)
+fn deliver_to_client(client: &mut Client, bag: &mut Bag, log: &mut Log, place: u32, packet: &Packet)
     requires there { place < length bag.old.messages }
     requires log_room { 0 < log.old.room }
     requires steps { log.old.steps + 1 < 2 ^ 64 }
@@ -165,48 +148,54 @@ fn deliver_to_client(
     note(log, answered(packet));
 }
 
-/// The message at the place is taken out, and its addressee handles it.
-fn deliver(
+/// The message at the place is taken out, and its addressee handles it. Where the keeper fails
+/// nothing is changed, and the message is still there.
+fn deliver<K: Keeper>(
     plan: &Plan,
     counter: &mut u64,
     clients: &mut [Client],
-    servers: &mut [Server],
+    keeper: &mut K,
     bag: &mut Bag,
     log: &mut Log,
     place: u32,
-) -> Result<(), Memory>
+) -> Result<(), StepFault>
     requires plan { IsUncachedPlan plan.now }
-    requires uncached { IsUncached plan.now (state_of plan.now counter.old clients.old servers.old bag.old.messages log.old) }
+    requires uncached { IsUncached plan.now (state_of plan.now counter.old clients.old (K.records keeper.old) bag.old.messages log.old) }
+    requires servers { K.server_count keeper.old ≡ plan.now.config.servers }
     requires there { place < length bag.old.messages }
     requires counter { counter.old + 1 < 2 ^ 64 }
+    requires bag_room { 0 < bag.old.room }
+    requires few { length bag.old.messages < 2 ^ 31 }
     requires log_room { 0 < log.old.room }
     requires steps { log.old.steps + 1 < 2 ^ 64 }
-    ensures after { OnOk result (state_of plan.now counter.new clients.new servers.new bag.new.messages log.new ≡ events.happens plan.now (state_of plan.now counter.old clients.old servers.old bag.old.messages log.old) (Event.Deliver place)) }
+    ensures after { OnOk result (IsAfter plan.now (state_of plan.now counter.old clients.old (K.records keeper.old) bag.old.messages log.old) (Event.Deliver place) (state_of plan.now counter.new clients.new (K.records keeper.new) bag.new.messages log.new)) }
+    ensures told { OnOk result (Tells (K.records keeper.old) → state_of plan.now counter.new clients.new (K.records keeper.new) bag.new.messages log.new ≡ events.happens plan.now (state_of plan.now counter.old clients.old (K.records keeper.old) bag.old.messages log.old) (Event.Deliver place)) }
+    ensures tells { is_some (K.records keeper.new) ≡ is_some (K.records keeper.old) }
     ensures steps { OnOk result (log.new.steps ≡ log.old.steps + 1) }
-    ensures left { OnOk result (SameLeft clients.old clients.new) }
-    ensures err { OnErr result (state_of plan.now counter.new clients.new servers.new bag.new.messages log.new ≡ state_of plan.now counter.old clients.old servers.old bag.old.messages log.old) }
+    ensures left { SameLeft clients.old clients.new }
+    ensures err { OnErr result (state_of plan.now counter.new clients.new (K.records keeper.new) bag.new.messages log.new ≡ state_of plan.now counter.old clients.old (K.records keeper.old) bag.old.messages log.old) }
+    ensures same_records { OnErr result (K.records keeper.new ≡ K.records keeper.old) }
+    ensures same_servers { K.server_count keeper.new ≡ K.server_count keeper.old }
+    ensures same_ceiling { OnErr result (K.ceiling keeper.new ≡ K.ceiling keeper.old) }
+    ensures later { K.fault_count keeper.old ≤ K.fault_count keeper.new }
+    ensures cause { IsErrOf result StepFault.KeeperFailed → Rose (K.fault_count keeper.old) (K.fault_count keeper.new) }
 {
-    let message = bag.at(place as usize);
+    flight_laws::one_flight();
+    let message = bag.at(place);
     match message.to {
         Party::Switch => {
-            deliver_to_switch(
-                &plan.config,
-                counter,
-                bag,
-                log,
-                place as usize,
-                &message.packet,
-            );
+            deliver_to_switch(&plan.config, counter, bag, log, place, &message.packet);
             Ok(())
         }
         Party::Client(number) => {
             let client = &mut clients[number as usize];
-            deliver_to_client(client, bag, log, place as usize, &message.packet);
+            deliver_to_client(client, bag, log, place, &message.packet);
             Ok(())
         }
         Party::Server(number) => {
-            let server = &mut servers[number as usize];
-            deliver_to_server(server, number, bag, log, place as usize, &message.packet)
+            let reply = server_step(keeper, number, &message.packet)?;
+            deliver_to_server(number, bag, log, place, reply);
+            Ok(())
         }
         Party::Controller => unreachable!(),
     }
@@ -229,35 +218,45 @@ pub(crate) fn make_room(bag: &mut Bag, log: &mut Log, events: &mut Vec<Event>) -
 }
 
 /// The event happens to the parties of a world. There is room for one more message and one more line.
-pub(crate) fn happen(
+pub(crate) fn happen<K: Keeper>(
     plan: &Plan,
     counter: &mut u64,
     clients: &mut [Client],
-    servers: &mut [Server],
+    keeper: &mut K,
     bag: &mut Bag,
     log: &mut Log,
     event: Event,
-) -> Result<(), Memory>
+) -> Result<(), StepFault>
     requires plan { IsUncachedPlan plan.now }
-    requires uncached { IsUncached plan.now (state_of plan.now counter.old clients.old servers.old bag.old.messages log.old) }
-    requires known { KnowsOperations plan.now (state_of plan.now counter.old clients.old servers.old bag.old.messages log.old) }
+    requires uncached { IsUncached plan.now (state_of plan.now counter.old clients.old (K.records keeper.old) bag.old.messages log.old) }
+    requires known { KnowsOperations plan.now (state_of plan.now counter.old clients.old (K.records keeper.old) bag.old.messages log.old) }
+    requires servers { K.server_count keeper.old ≡ plan.now.config.servers }
     requires can { CanHappen clients.old bag.old.messages event }
     requires counter { counter.old + 1 < 2 ^ 64 }
     requires bag_room { 0 < bag.old.room }
+    requires few { length bag.old.messages < 2 ^ 31 }
     requires log_room { 0 < log.old.room }
     requires steps { log.old.steps + 1 < 2 ^ 64 }
-    ensures after { OnOk result (state_of plan.now counter.new clients.new servers.new bag.new.messages log.new ≡ events.happens plan.now (state_of plan.now counter.old clients.old servers.old bag.old.messages log.old) event) }
+    ensures after { OnOk result (IsAfter plan.now (state_of plan.now counter.old clients.old (K.records keeper.old) bag.old.messages log.old) event (state_of plan.now counter.new clients.new (K.records keeper.new) bag.new.messages log.new)) }
+    ensures told { OnOk result (Tells (K.records keeper.old) → state_of plan.now counter.new clients.new (K.records keeper.new) bag.new.messages log.new ≡ events.happens plan.now (state_of plan.now counter.old clients.old (K.records keeper.old) bag.old.messages log.old) event) }
+    ensures tells { is_some (K.records keeper.new) ≡ is_some (K.records keeper.old) }
     ensures steps { OnOk result (log.new.steps ≡ log.old.steps + 1) }
-    ensures known { OnOk result (KnowsOperations plan.now (state_of plan.now counter.new clients.new servers.new bag.new.messages log.new)) }
-    ensures err { OnErr result (state_of plan.now counter.new clients.new servers.new bag.new.messages log.new ≡ state_of plan.now counter.old clients.old servers.old bag.old.messages log.old) }
+    ensures known { OnOk result (KnowsOperations plan.now (state_of plan.now counter.new clients.new (K.records keeper.new) bag.new.messages log.new)) }
+    ensures err { OnErr result (state_of plan.now counter.new clients.new (K.records keeper.new) bag.new.messages log.new ≡ state_of plan.now counter.old clients.old (K.records keeper.old) bag.old.messages log.old) }
+    ensures same_records { OnErr result (K.records keeper.new ≡ K.records keeper.old) }
+    ensures same_servers { K.server_count keeper.new ≡ K.server_count keeper.old }
+    ensures same_ceiling { OnErr result (K.ceiling keeper.new ≡ K.ceiling keeper.old) }
+    ensures later { K.fault_count keeper.old ≤ K.fault_count keeper.new }
+    ensures cause { IsErrOf result StepFault.KeeperFailed → Rose (K.fault_count keeper.old) (K.fault_count keeper.new) }
 {
+    flight_laws::one_flight();
     match event {
         Event::Send(number) => {
             let client = &mut clients[number as usize];
             send(&plan.ops, client, number, bag, log);
             Ok(())
         }
-        Event::Deliver(place) => deliver(plan, counter, clients, servers, bag, log, place),
+        Event::Deliver(place) => deliver(plan, counter, clients, keeper, bag, log, place),
         _ => unreachable!(),
     }
 }

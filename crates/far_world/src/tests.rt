@@ -7,6 +7,8 @@ ghost use Rattle.far_base.specs.declared.plan.Op.TheVariants.{Put};
 
 use super::*;
 use far_base::{Body, Config, Key, LogEntry, Op, OpLine};
+use far_outside::Keeper;
+use server_keeper::{MapKeeper, ScriptedKeeper};
 use std::alloc::Global;
 use std::test::Fail;
 
@@ -60,14 +62,16 @@ fn emissions(alloc: Global, log: &Log) -> Result<Vec<(u64, u32, u64)>, Fail> {
 #[test]
 fn the_second_put_reaches_the_server_first(rt: HostRuntime) -> Result<(), Fail> {
     let alloc = rt.alloc();
-    let mut world = World::start(alloc, two_puts(alloc)?)?;
+    let mut world = World::start(alloc, two_puts(alloc)?, MapKeeper::new(alloc)).map_err(
+        |_| "start",
+    )?;
     for pick in [0, 0, 0, 0, 1, 1, 1, 0, 0, 0, 0] {
         if !world.quiet() {
-            world.step(pick)?;
+            world.step(pick).map_err(|_| "step")?;
         }
     }
     assert!(rt; world.finished());
-    let (_, events, log) = world.into_parts();
+    let (_, events, log, mut keeper) = world.into_parts();
     let expected = [
         Event::Send(0),
         Event::Send(1),
@@ -83,5 +87,6 @@ fn the_second_put_reaches_the_server_first(rt: HostRuntime) -> Result<(), Fail> 
     assert!(rt; events.as_slice() == expected.as_slice());
     let emitted = emissions(alloc, &log)?;
     assert!(rt; emitted.as_slice() == [(6, 2, 2), (9, 1, 2)].as_slice());
+    assert!(rt; keeper.top(0) == Ok(2));
     Ok(())
 }
