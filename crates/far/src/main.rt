@@ -2,7 +2,8 @@
 #![tactic(auto)]
 
 use far_outside::{StdSink, StdSource};
-use run_main::{Status, top_calm};
+use run_main::{Ended, Status, top_calm};
+use server_keeper::MapKeeper;
 use std::process::ExitCode;
 use std::{env, io};
 
@@ -26,13 +27,20 @@ fn words_status(error: &io::Error) -> Status {
 fn main(rt: HostRuntime) -> ExitCode {
     let mut source = StdSource::new(rt.reader());
     let mut sink = StdSink::new(io::writer(&rt));
-    let status = match words_of(&rt) {
-        Ok(words) => top_calm(rt.alloc(), &words, &mut source, &mut sink),
-        Err(error) => match words_status(&error) {
+    let words = match words_of(&rt) {
+        Ok(words) => words,
+        Err(error) => {
+            if words_status(&error) == Status::Memory {
+                return ExitCode::from(Status::Memory.exit_number());
+            }
             // A list of no words names no command, so the usage line is written.
-            Status::Usage => top_calm(rt.alloc(), &[], &mut source, &mut sink),
-            other => other,
-        },
+            Vec::new(rt.alloc())
+        }
     };
+    let keeper = MapKeeper::new(rt.alloc());
+    let Ended {
+        status,
+        keeper: _keeper,
+    } = top_calm(rt.alloc(), &words, &mut source, &mut sink, keeper);
     ExitCode::from(status.exit_number())
 }

@@ -1,3 +1,4 @@
+pub mod Faults
 pub mod Number
 pub mod BaseForm
 pub mod Reading

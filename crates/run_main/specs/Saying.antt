@@ -1,11 +1,11 @@
 -- The steps of a top call: the text that is read, the report, and what is said.
 use Rattle.std.specs.Prelude.{◌≡◌, ℕ, ◌<◌, ◌≤◌, List, ◌++◌, length, take, Option, None, Some, Result, Ok, Err}
 use Rattle.run_main.specs.BaseForm.{WorkView, IsBaseForm}
-use Rattle.run_main.specs.Top.{IsNotBuilt, IsReplayOf}
+use Rattle.run_main.specs.Top.{IsNotBuilt}
 use Rattle.run_main.specs.declared.status.Status.{Status}
-use Rattle.run_main.specs.declared.status.Status.TheVariants.{Done, Usage, ReadFault, WriteFault, Memory, NotBuilt}
+use Rattle.run_main.specs.declared.status.Status.TheVariants.{Done, Usage, ReadFault, WriteFault, KeeperFault, Memory, NotBuilt}
 use Rattle.run_main.specs.declared.top.Stop.{Stop}
-use Rattle.run_main.specs.declared.top.Stop.TheVariants.{Read, Memory as NoMemory, NotBuilt as NoWorkload}
+use Rattle.run_main.specs.declared.top.Stop.TheVariants.{Read, Keeper, Memory as NoMemory, NotBuilt as NoWorkload}
 use Rattle.run_main.specs.declared.top.TheConstants.{INPUT_LIMIT}
 
 -- a status that goes with a text
@@ -20,6 +20,7 @@ abbrev pub SaysTold : List ℕ → List ℕ → List ℕ → Status → Status �
 SaysTold before now text status WriteFault = (n : ℕ) × (now ≡ before ++ take n text)
 SaysTold before now text status Memory = now ≡ before
 SaysTold before now text status ReadFault = ⊥
+SaysTold before now text status KeeperFault = ⊥
 SaysTold before now text status answer = (answer ≡ status) × (now ≡ before ++ text)
 
 -- of the answers that come without a text, and of those with one the one that goes with it
@@ -27,6 +28,7 @@ abbrev pub Answers : Status → Status → Type 0
 Answers status WriteFault = Unit {0}
 Answers status Memory = Unit {0}
 Answers status ReadFault = ⊥
+Answers status KeeperFault = ⊥
 Answers status answer = answer ≡ status
 
 abbrev pub Says : Option (List ℕ) → Option (List ℕ) → List ℕ → Status → Status → Type 0
@@ -39,11 +41,11 @@ abbrev pub SettlesText : {T : Type 0} → List ℕ → Result T Stop → Type 0
 SettlesText input (Ok bytes) = length input ≤ INPUT_LIMIT
 SettlesText input (Err NoMemory) = Unit {0}
 SettlesText input (Err NoWorkload) = INPUT_LIMIT < length input
-SettlesText input (Err Read) = ⊥
+SettlesText input (Err _) = ⊥
 
 -- the input was replayed where it is a workload of the base form that is not too large
 abbrev pub SettlesReplay : {T : Type 0} → List ℕ → Result T Stop → Type 0
 SettlesReplay input (Ok report) = ¬ (IsNotBuilt input)
 SettlesReplay input (Err NoMemory) = Unit {0}
 SettlesReplay input (Err NoWorkload) = IsNotBuilt input
-SettlesReplay input (Err Read) = ⊥
+SettlesReplay input (Err _) = ⊥

@@ -9,7 +9,7 @@ mod words;
 
 pub use base_form::{BaseFault, BaseWork, PICK_LIMIT, read_base};
 pub use status::Status;
-pub use top::{INPUT_LIMIT, top_calm, top_calm_in_memory};
+pub use top::{Ended, INPUT_LIMIT, top_calm, top_calm_in_memory};
 
 #[cfg(test)]
 mod tests;

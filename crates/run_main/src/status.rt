@@ -12,6 +12,8 @@ pub enum Status {
     ReadFault,
     /// A write to the sink failed.
     WriteFault,
+    /// A call of the keeper failed.
+    KeeperFault,
     /// Memory was refused.
     Memory,
     /// The input is not of the form that is built so far, or is too large.
@@ -28,6 +30,7 @@ impl Status {
             Status::Usage => 2,
             Status::ReadFault => 4,
             Status::WriteFault => 5,
+            Status::KeeperFault => 6,
             Status::Memory => 7,
             Status::NotBuilt => 10,
         }

@@ -1,7 +1,7 @@
-use crate::base_form::BaseFault;
-use crate::replay::replay;
+use crate::replay::{ReplayFault, Replayed, replay};
 use crate::status::Status;
-use far_outside::{CleanSink, CleanSource, ReadStop, Sink, SinkFault, Source, read_all};
+use far_outside::{CleanSink, CleanSource, Keeper, ReadStop, Sink, SinkFault, Source, read_all};
+use server_keeper::MapKeeper;
 use std::alloc::Global;
 
 /// The greatest number of bytes of an input.
@@ -15,14 +15,16 @@ const NOT_BUILT: &[u8] = b"not built\n";
 #[derive(Clone, Copy, Debug, PartialEq, Eq)]
 enum Stop {
     Read,
+    Keeper,
     Memory,
     NotBuilt,
 }
 
-ghost use Rattle.std.specs.Prelude.{◌≡◌, ◌≢◌, Some, ◌≤◌, ◌↔◌, ◌⊎◌, IsTrue, IfOk, IfSome, IsErrOf, codes, map, length, string_bytes};
+ghost use Rattle.std.specs.Prelude.{◌≡◌, ◌≢◌, Some, ◌≤◌, ◌↔◌, ◌⊎◌, IsTrue, IfOk, IfErr, IfSome, OnOk, IsErrOf, codes, map, length, string_bytes};
 ghost use Rattle.far_outside.specs.Faults.{Rose};
 ghost use Rattle.far_outside.specs.Reading.{HasReadAll, HadMore};
 ghost use Rattle.run_main.specs.Top.{IsReplay, IsReplayOf, IsNotBuilt, WroteTold, ReadToEnd, IsOrMemory, IsDecided};
+ghost use Rattle.far_world.specs.WorldView.{Tells};
 ghost use Rattle.run_main.specs.Saying.{IsSaid, Says, SettlesText, SettlesReplay};
 
 fn is_word(word: &str) -> bool
@@ -60,6 +62,7 @@ fn read_text<S: Source>(alloc: Global, source: &mut S) -> Result<Vec<u8>, Stop>
     ensures large { IsErrOf result Stop.NotBuilt → HadMore (S.left source.old) INPUT_LIMIT }
     ensures later { S.fault_count source.old ≤ S.fault_count source.new }
     ensures cause { IsErrOf result Stop.Read → Rose (S.fault_count source.old) (S.fault_count source.new) }
+    ensures no_keeper { IfErr result (λ stop. ¬ (stop ≡ Stop.Keeper)) }
     ensures settled { ¬ Rose (S.fault_count source.old) (S.fault_count source.new) → IfSome (S.left source.old) (λ input. SettlesText input result) }
 {
     match read_all(alloc, source, INPUT_LIMIT) {
@@ -70,70 +73,140 @@ fn read_text<S: Source>(alloc: Global, source: &mut S) -> Result<Vec<u8>, Stop>
     }
 }
 
-/// The report of the run of the workload that the source has.
-fn replayed<S: Source>(alloc: Global, source: &mut S) -> Result<Vec<u8>, Stop>
-    ensures done { IfOk result (λ report. IfSome (S.left source.old) (λ input. IsReplayOf input report.items)) }
-    ensures end { IfOk result (λ report. ReadToEnd (S.left source.old) (S.left source.new)) }
-    ensures not_built { IsErrOf result Stop.NotBuilt → IfSome (S.left source.old) IsNotBuilt }
-    ensures cause { IsErrOf result Stop.Read → Rose (S.fault_count source.old) (S.fault_count source.new) }
-    ensures settled { ¬ Rose (S.fault_count source.old) (S.fault_count source.new) → IfSome (S.left source.old) (λ input. SettlesReplay input result) }
+/// The report, or why there is none, and the keeper.
+struct Outcome<K: Keeper> {
+    text: Result<Vec<u8>, Stop>,
+    keeper: K,
+}
+
+/// The report of the run of the workload that the source has, and the keeper after it. Where there
+/// was no run the keeper is as it was.
+fn replayed<S: Source, K: Keeper>(alloc: Global, source: &mut S, keeper: K) -> Outcome<K>
+    ensures done { Tells (K.records keeper) → IfOk result.text (λ report. IfSome (S.left source.old) (λ input. IfSome (K.records result.keeper) (λ all. IsReplayOf input report.items all))) }
+    ensures end { OnOk result.text (ReadToEnd (S.left source.old) (S.left source.new)) }
+    ensures not_built { IsErrOf result.text Stop.NotBuilt → IfSome (S.left source.old) IsNotBuilt }
+    ensures cause { IsErrOf result.text Stop.Read → Rose (S.fault_count source.old) (S.fault_count source.new) }
+    ensures keeper_cause { IsErrOf result.text Stop.Keeper → Rose (K.fault_count keeper) (K.fault_count result.keeper) }
+    ensures later { K.fault_count keeper ≤ K.fault_count result.keeper }
+    ensures unread { IsErrOf result.text Stop.Read → result.keeper ≡ keeper }
+    ensures unbuilt { IsErrOf result.text Stop.NotBuilt → result.keeper ≡ keeper }
+    ensures settled { ¬ Rose (S.fault_count source.old) (S.fault_count source.new) → ¬ Rose (K.fault_count keeper) (K.fault_count result.keeper) → IfSome (S.left source.old) (λ input. SettlesReplay input result.text) }
 {
-    let text = read_text(alloc, source)?;
-    match replay(alloc, &text) {
-        Ok(report) => Ok(report),
-        Err(BaseFault::Memory) => Err(Stop::Memory),
-        Err(BaseFault::NotBase) => Err(Stop::NotBuilt),
+    let text = match read_text(alloc, source) {
+        Ok(text) => text,
+        Err(stop) => {
+            return Outcome {
+                text: Err(stop),
+                keeper,
+            };
+        }
+    };
+    let Replayed { report, keeper } = replay(alloc, &text, keeper);
+    match report {
+        Ok(report) => Outcome {
+            text: Ok(report),
+            keeper,
+        },
+        Err(ReplayFault::Memory) => Outcome {
+            text: Err(Stop::Memory),
+            keeper,
+        },
+        Err(ReplayFault::Keeper) => Outcome {
+            text: Err(Stop::Keeper),
+            keeper,
+        },
+        Err(ReplayFault::NotBase) => Outcome {
+            text: Err(Stop::NotBuilt),
+            keeper,
+        },
     }
 }
 
+/// How a top call ended, and the keeper.
+pub struct Ended<K: Keeper> {
+    pub status: Status,
+    pub keeper: K,
+}
+
 /// Does what the words say: `replay` reads a workload of the base form to its end, runs it by its
-/// picks and writes the report.
+/// picks over the keeper, which is begun anew, and writes the report.
 ///
 /// `Usage` where the words are not the one word `replay`, `NotBuilt` where the input is not of the
-/// base form or has more than `INPUT_LIMIT` bytes: each writes one line. `ReadFault` and `WriteFault`
-/// where a read or a write failed. The first cause decides, in the order words, reading, grammar,
-/// run, writing; nothing is written before the run has ended.
-pub fn top_calm<S: Source, D: Sink>(
+/// base form or has more than `INPUT_LIMIT` bytes: each writes one line. `ReadFault`, `WriteFault` and
+/// `KeeperFault` where a read, a write or a call of the keeper failed. The first cause decides, in the
+/// order words, reading, grammar, run, writing; nothing is written before the run has ended. The
+/// keeper comes back with the servers' records at the end of the run; where there was no run it is
+/// as it was.
+pub fn top_calm<S: Source, D: Sink, K: Keeper>(
     alloc: Global,
     words: &[String],
     source: &mut S,
     sink: &mut D,
-) -> Status
+    keeper: K,
+) -> Ended<K>
     // Each answer has its cause.
-    ensures usage { result ≡ Status.Usage → ¬ (IsReplay (map string_bytes words.now)) }
-    ensures not_built { result ≡ Status.NotBuilt → IsReplay (map string_bytes words.now) × IfSome (S.left source.old) IsNotBuilt }
-    ensures read_fault { result ≡ Status.ReadFault → Rose (S.fault_count source.old) (S.fault_count source.new) }
-    ensures write_fault { result ≡ Status.WriteFault → Rose (D.fault_count sink.old) (D.fault_count sink.new) }
+    ensures usage { result.status ≡ Status.Usage → ¬ (IsReplay (map string_bytes words.now)) }
+    ensures not_built { result.status ≡ Status.NotBuilt → IsReplay (map string_bytes words.now) × IfSome (S.left source.old) IsNotBuilt }
+    ensures read_fault { result.status ≡ Status.ReadFault → Rose (S.fault_count source.old) (S.fault_count source.new) }
+    ensures write_fault { result.status ≡ Status.WriteFault → Rose (D.fault_count sink.old) (D.fault_count sink.new) }
+    ensures keeper_fault { result.status ≡ Status.KeeperFault → Rose (K.fault_count keeper) (K.fault_count result.keeper) }
 
     // What is written is what was due, and a report comes only after all was read.
-    ensures written { WroteTold (map string_bytes words.now) (S.left source.old) (D.written sink.old) (D.written sink.new) result }
-    ensures end { result ≡ Status.Done → ReadToEnd (S.left source.old) (S.left source.new) }
+    ensures written { Tells (K.records keeper) → WroteTold (map string_bytes words.now) (S.left source.old) (K.records result.keeper) (D.written sink.old) (D.written sink.new) result.status }
+    ensures end { result.status ≡ Status.Done → ReadToEnd (S.left source.old) (S.left source.new) }
+
+    // Where there was no run the keeper is as it was.
+    ensures no_run { ¬ (IsReplay (map string_bytes words.now)) → result.keeper ≡ keeper }
+    ensures unread { result.status ≡ Status.ReadFault → result.keeper ≡ keeper }
+    ensures unbuilt { result.status ≡ Status.NotBuilt → result.keeper ≡ keeper }
 
     // Where no count rose the answer is the one that is due, unless memory was refused.
-    ensures other_words { ¬ (IsReplay (map string_bytes words.now)) → ¬ Rose (D.fault_count sink.old) (D.fault_count sink.new) → IsOrMemory Status.Usage result }
-    ensures complete { IsReplay (map string_bytes words.now) → ¬ Rose (S.fault_count source.old) (S.fault_count source.new) → ¬ Rose (D.fault_count sink.old) (D.fault_count sink.new) → IfSome (S.left source.old) (λ input. IsDecided input result) }
+    ensures other_words { ¬ (IsReplay (map string_bytes words.now)) → ¬ Rose (D.fault_count sink.old) (D.fault_count sink.new) → IsOrMemory Status.Usage result.status }
+    ensures complete { IsReplay (map string_bytes words.now) → ¬ Rose (S.fault_count source.old) (S.fault_count source.new) → ¬ Rose (D.fault_count sink.old) (D.fault_count sink.new) → ¬ Rose (K.fault_count keeper) (K.fault_count result.keeper) → IfSome (S.left source.old) (λ input. IsDecided input result.status) }
 {
     if !is_replay(words) {
-        return say(sink, USAGE, Status::Usage);
+        return Ended {
+            status: say(sink, USAGE, Status::Usage),
+            keeper,
+        };
     }
-    match replayed(alloc, source) {
-        Ok(text) => say(sink, &text, Status::Done),
-        Err(Stop::Read) => Status::ReadFault,
-        Err(Stop::Memory) => Status::Memory,
-        Err(Stop::NotBuilt) => say(sink, NOT_BUILT, Status::NotBuilt),
+    let Outcome { text, keeper } = replayed(alloc, source, keeper);
+    match text {
+        Ok(text) => Ended {
+            status: say(sink, &text, Status::Done),
+            keeper,
+        },
+        Err(Stop::Read) => Ended {
+            status: Status::ReadFault,
+            keeper,
+        },
+        Err(Stop::Keeper) => Ended {
+            status: Status::KeeperFault,
+            keeper,
+        },
+        Err(Stop::Memory) => Ended {
+            status: Status::Memory,
+            keeper,
+        },
+        Err(Stop::NotBuilt) => Ended {
+            status: say(sink, NOT_BUILT, Status::NotBuilt),
+            keeper,
+        },
     }
 }
 
-/// The top call over memory, where no read and no write fails.
+/// The top call over memory, where no read, no write and no call of the keeper fails.
 pub fn top_calm_in_memory(
     alloc: Global,
     words: &[String],
     source: &mut CleanSource,
     sink: &mut CleanSink,
-) -> Status
-    ensures no_read_fault { result ≢ Status.ReadFault }
-    ensures no_write_fault { result ≢ Status.WriteFault }
-    ensures written { WroteTold (map string_bytes words.now) (Some source.old) (Some sink.old) (Some sink.new) result }
+    keeper: MapKeeper,
+) -> Ended<MapKeeper>
+    ensures no_read_fault { result.status ≢ Status.ReadFault }
+    ensures no_write_fault { result.status ≢ Status.WriteFault }
+    ensures no_keeper_fault { result.status ≢ Status.KeeperFault }
+    ensures written { WroteTold (map string_bytes words.now) (Some source.old) (Some result.keeper) (Some sink.old) (Some sink.new) result.status }
 {
-    top_calm(alloc, words, source, sink)
+    top_calm(alloc, words, source, sink, keeper)
 }

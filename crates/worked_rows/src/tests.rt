@@ -1,5 +1,6 @@
-use far_outside::{CleanSink, CleanSource, Failed, MemSink, MemSource, Source};
-use run_main::{Status, top_calm};
+use far_outside::{CleanSink, CleanSource, MemSink, MemSource};
+use run_main::{Ended, Status, top_calm};
+use server_keeper::{MapKeeper, ScriptedKeeper};
 use std::alloc::Global;
 use std::test::Fail;
 
@@ -53,42 +54,64 @@ fn words_of(alloc: Global, word: &str) -> Result<Vec<String>, Fail> {
 #[test]
 fn rows_are_written_as_computed(rt: HostRuntime) -> Result<(), Fail> {
     let alloc = rt.alloc();
-    for (word, input, output, status) in ROWS {
+    for (word, input, output, expected) in ROWS {
         let words = words_of(alloc, word)?;
         let mut source = CleanSource::new(input.as_bytes().to_vec(alloc)?);
         let mut sink = CleanSink::new(alloc);
-        assert_eq!(rt; top_calm(alloc, &words, &mut source, &mut sink), status);
+        let Ended {
+            status,
+            keeper: _keeper,
+        } = top_calm(alloc, &words, &mut source, &mut sink, MapKeeper::new(alloc));
+        assert_eq!(rt; status, expected);
         assert!(rt; sink.bytes() == output.as_bytes());
     }
     Ok(())
 }
 
 #[test]
-fn a_failed_call_is_the_answer(rt: HostRuntime) -> Result<(), Fail> {
+fn a_failed_read_or_write_is_the_answer(rt: HostRuntime) -> Result<(), Fail> {
     let alloc = rt.alloc();
     let words = words_of(alloc, "replay")?;
     let input = ROWS[1].1.as_bytes();
-    let mut source = MemSource::new(input.to_vec(alloc)?, [1].to_vec(alloc)?);
-    let mut sink = MemSink::new(alloc, Vec::new(alloc));
-    assert_eq!(rt;
-        top_calm(alloc, &words, &mut source, &mut sink),
-        Status::ReadFault
-    );
-    assert!(rt; sink.bytes().is_empty());
-
     // The end of the input is seen by the second call.
-    let mut source = MemSource::new(input.to_vec(alloc)?, [2].to_vec(alloc)?);
-    assert_eq!(rt;
-        top_calm(alloc, &words, &mut source, &mut sink),
-        Status::ReadFault
-    );
-    assert!(rt; sink.bytes().is_empty());
+    for (read, write, expected) in [
+        (1, 9, Status::ReadFault),
+        (2, 9, Status::ReadFault),
+        (9, 1, Status::WriteFault),
+    ] {
+        let mut source = MemSource::new(input.to_vec(alloc)?, [read].to_vec(alloc)?);
+        let mut sink = MemSink::new(alloc, [write].to_vec(alloc)?);
+        let Ended {
+            status,
+            keeper: _keeper,
+        } = top_calm(alloc, &words, &mut source, &mut sink, MapKeeper::new(alloc));
+        assert_eq!(rt; status, expected);
+        assert!(rt; sink.bytes().is_empty());
+    }
+    Ok(())
+}
 
-    let mut source = MemSource::new(input.to_vec(alloc)?, Vec::new(alloc));
-    let mut sink = MemSink::new(alloc, [1].to_vec(alloc)?);
-    assert_eq!(rt;
-        top_calm(alloc, &words, &mut source, &mut sink),
-        Status::WriteFault
-    );
+/// The put and the get make four calls of the keeper. Where one fails nothing is written, and what
+/// comes back serves for another start.
+#[test]
+fn a_failed_call_of_the_keeper_is_the_answer(rt: HostRuntime) -> Result<(), Fail> {
+    let alloc = rt.alloc();
+    let words = words_of(alloc, "replay")?;
+    let input = ROWS[1].1.as_bytes();
+    for call in [1, 2, 3, 4] {
+        let mut source = CleanSource::new(input.to_vec(alloc)?);
+        let mut sink = CleanSink::new(alloc);
+        let keeper = ScriptedKeeper::new(alloc, [call].to_vec(alloc)?);
+        let Ended { status, keeper } = top_calm(alloc, &words, &mut source, &mut sink, keeper);
+        assert_eq!(rt; status, Status::KeeperFault);
+        assert!(rt; sink.bytes().is_empty());
+        let mut source = CleanSource::new(input.to_vec(alloc)?);
+        let Ended {
+            status,
+            keeper: _keeper,
+        } = top_calm(alloc, &words, &mut source, &mut sink, keeper);
+        assert_eq!(rt; status, Status::Done);
+        assert!(rt; sink.bytes() == ROWS[1].2.as_bytes());
+    }
     Ok(())
 }
