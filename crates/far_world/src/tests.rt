@@ -8,7 +8,7 @@ ghost use Rattle.far_base.specs.declared.plan.Op.TheVariants.{Put};
 use super::*;
 use far_base::{Body, Config, Key, LogEntry, Op, OpLine};
 use far_outside::Keeper;
-use server_keeper::{MapKeeper, ScriptedKeeper};
+use server_keeper::MapKeeper;
 use std::alloc::Global;
 use std::test::Fail;
 
