@@ -8,7 +8,7 @@ ghost use Rattle.far_base.specs.declared.plan.Op.TheVariants.{Put};
 use super::*;
 use far_base::{Body, Config, Key, LogEntry, Op, OpLine};
 use far_outside::Keeper;
-use server_keeper::MapKeeper;
+use server_keeper::{MapKeeper, ScriptedKeeper};
 use std::alloc::Global;
 use std::test::Fail;
 
@@ -88,5 +88,23 @@ fn the_second_put_reaches_the_server_first(rt: HostRuntime) -> Result<(), Fail> 
     let emitted = emissions(alloc, &log)?;
     assert!(rt; emitted.as_slice() == [(6, 2, 2), (9, 1, 2)].as_slice());
     assert!(rt; keeper.top(0) == Ok(2));
+    Ok(())
+}
+
+#[test]
+fn a_call_that_failed_is_made_again(rt: HostRuntime) -> Result<(), Fail> {
+    let alloc = rt.alloc();
+    let keeper = ScriptedKeeper::new(alloc, Vec::from_array(alloc, [2])?);
+    let mut world = World::start(alloc, two_puts(alloc)?, keeper).map_err(|_| "start")?;
+    let mut failed = false;
+    for _ in 0..11 {
+        if !world.quiet() {
+            if let Err(StepFault::KeeperFailed) = world.step(0) {
+                failed = true;
+            }
+        }
+    }
+    assert!(rt; failed);
+    assert!(rt; world.finished());
     Ok(())
 }
