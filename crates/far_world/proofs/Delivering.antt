@@ -1,5 +1,5 @@
 -- What a delivery does in a world without a cache, by its addressee.
-use Rattle.std.proofs.Common.{◌≡◌, ℕ, ◌<◌, ◌+◌, List, [], ◌∷◌, ◌++◌, length, map, refl, sym, ap, ◌∙◌, Some, None, arith}
+use Rattle.std.proofs.Common.{◌≡◌, ℕ, ◌<◌, ◌≤◌, ◌+◌, List, [], ◌∷◌, ◌++◌, length, map, refl, sym, ap, ◌∙◌, Some, None, arith}
 use Rattle.std.proofs.lemmas.List.{append-nil, length-set}
 use Rattle.std.proofs.lemmas.Option.{same_Some}
 use Rattle.std.specs.Option.{option_map}
@@ -26,8 +26,8 @@ use Rattle.far_model.specs.State.{State, client_at, line_at}
 use Rattle.far_model.specs.Uncached.{GoesTo}
 use Rattle.far_model.specs.View.{opening_view, server_of}
 use Rattle.far_outside.specs.Keeping.{records_of}
-use Rattle.server_keeper.specs.Step.{IsForServer, after_packet}
-use Rattle.far_world.specs.WorldView.{IsAfter, Logs, Tells, answered_in, state_of, told_by}
+use Rattle.server_keeper.specs.Step.{IsForServer, after_packet, number_in, number_of_reply}
+use Rattle.far_world.specs.WorldView.{IsAfter, Logs, Tells, answered_in, number_of, state_of, told_by}
 
 pub client_within : (config : Config) (packet : Packet) (c : ℕ) → GoesTo config packet (Client c) → c < config.clients
 client_within config (GetAns caller op key num body near) c h = let e : c ≡ caller = cc (h.0) in rw e h.1
@@ -62,9 +62,13 @@ forward_kind config (GetAns caller op key num body near) n h = absurd (cc (h.0))
 forward_kind config (WriteAns caller op key num kept) n h = absurd (cc (h.0))
 forward_kind config _ n h = absurd h
 
-pub goes_back : (config : Config) (packet : Packet) (n : ℕ) (reply : Packet) → GoesTo config packet (Server n) → IsReplyTo n packet (Some reply) → reply_goes_to reply ≡ Switch
-goes_back config (GetFwd caller op key tag) n reply h k = rw (same_Some _ _ k.is) refl
-goes_back config (WriteFwd caller op key num body) n reply h k = rw (same_Some _ _ k.is) refl
+-- the reply goes to the switch with the number that it has, and a put has the number of the packet
+abbrev pub IsAnswered : Packet → Packet → Type 0
+IsAnswered packet reply = (reply_goes_to reply ≡ Switch) × (number_of reply ≡ number_of_reply reply) × (number_in packet ≤ number_of packet)
+
+pub goes_back : (config : Config) (packet : Packet) (n : ℕ) (reply : Packet) → GoesTo config packet (Server n) → IsReplyTo n packet (Some reply) → IsAnswered packet reply
+goes_back config (GetFwd caller op key tag) n reply h k = let e = same_Some _ _ k.is in (rw e refl, rw e refl, omega arith)
+goes_back config (WriteFwd caller op key num body) n reply h k = let e = same_Some _ _ k.is in (rw e refl, rw e refl, omega arith)
 goes_back config (GetReq caller op key) n reply h k = absurd (cc (h.0))
 goes_back config (WriteReq caller op key body) n reply h k = absurd (cc (h.0))
 goes_back config (GetRep caller op key tag num body) n reply h k = absurd (cc (h.0))

@@ -18,7 +18,7 @@ use Rattle.far_model.specs.State.{State, opening, client_at, clients_from, nobod
 use Rattle.far_model.specs.Uncached.{IsUncached, IsUncachedPlan}
 use Rattle.far_model.specs.Work.{work_left}
 use Rattle.far_world.proofs.Lists.{slice_get_there}
-use Rattle.far_world.specs.WorldView.{CanHappen, IsAfter, IsOperation, IsWorld, Kept, KnowsOperations, Tells, state_of, told_by}
+use Rattle.far_world.specs.WorldView.{AreNumberedUpTo, CanHappen, IsAfter, IsOperation, IsWorld, Kept, KnowsOperations, Tells, state_of, told_by}
 
 pub same_state : (plan : PlanView) (counter : ℕ) (clients clients' : List ClientState) (records records' : Option (List (List Record))) (bag bag' : List Message) (log log' : RoomyLog)
     → clients ≡ clients' → records ≡ records' → bag ≡ bag' → log.steps ≡ log'.steps → log.lines ≡ log'.lines → state_of plan counter clients records bag log ≡ state_of plan counter clients' records' bag' log'
@@ -65,10 +65,10 @@ module _ (plan : PlanView) (s t : State) (e : Event) (a : IsAfter plan s e t) wh
 
   pub ran_more : (events : List Event) (k new : Kept) → IsWorld plan events s k → is_enabled plan s e ≡ true → (Tells k.records → t ≡ happens plan s e) → is_some new.records ≡ is_some k.records → t.steps ≡ s.steps + 1
       → KnowsOperations plan t → new.servers ≡ k.servers → t.servers ≡ told_by plan.config.servers new.records
-      → IsUncached plan (happens_with plan a.keeping s e) → IsRouted plan (happens_with plan a.keeping s e) → OneFlightPerOperation (happens_with plan a.keeping s e)
+      → AreNumberedUpTo t.switch.counter t.bag → new.ceiling ≤ t.switch.counter → IsUncached plan (happens_with plan a.keeping s e) → IsRouted plan (happens_with plan a.keeping s e) → OneFlightPerOperation (happens_with plan a.keeping s e)
       → suc (work_left plan (happens_with plan a.keeping s e)) ≤ work_left plan s → (happens_with plan a.keeping s e).switch.counter ≤ s.switch.counter + 1
       → IsWorld plan (events ++ e ∷ []) t new
-  ran_more events k new h able after same steps known servers shown uncached routed flights lower number =
+  ran_more events k new h able after same steps known servers shown numbered ceiling uncached routed flights lower number =
       let count : length t.servers ≡ plan.config.servers = a.servers ∙ h.uncached.servers in
       let counter : t.switch.counter ≤ s.switch.counter + 1 = subst (λ (z : State). z.switch.counter ≤ s.switch.counter + 1) (sym a.after) number in
       record {
@@ -81,6 +81,8 @@ module _ (plan : PlanView) (s t : State) (e : Event) (a : IsAfter plan s e t) wh
         steps = omega (arith, steps, h.steps, length-append events (e ∷ []));
         known = known;
         servers = servers ∙ h.servers;
+        numbered = numbered;
+        ceiling = ceiling;
         records = shown;
         told = λ tells.
             let told = h.told (sym same ∙ tells) in
@@ -90,8 +92,8 @@ module _ (plan : PlanView) (s t : State) (e : Event) (a : IsAfter plan s e t) wh
             };
       }
 
-pub stays : (plan : PlanView) (events : List Event) (s t : State) (k new : Kept) → IsWorld plan events s k → t ≡ s → new.records ≡ k.records → new.servers ≡ k.servers → IsWorld plan events t new
-stays plan events s t k new h is records servers = subst (λ (z : State). IsWorld plan events z new) (sym is) (record {
+pub stays : (plan : PlanView) (events : List Event) (s t : State) (k new : Kept) → IsWorld plan events s k → t ≡ s → new.records ≡ k.records → new.servers ≡ k.servers → new.ceiling ≡ k.ceiling → IsWorld plan events t new
+stays plan events s t k new h is records servers ceiling = subst (λ (z : State). IsWorld plan events z new) (sym is) (record {
   plain = h.plain;
   uncached = h.uncached;
   routed = h.routed;
@@ -101,6 +103,8 @@ stays plan events s t k new h is records servers = subst (λ (z : State). IsWorl
   steps = h.steps;
   known = h.known;
   servers = servers ∙ h.servers;
+  numbered = h.numbered;
+  ceiling = rw ceiling h.ceiling;
   records = h.records ∙ ap (told_by plan.config.servers) (sym records);
   told = λ tells. h.told (subst Tells records tells);
 })
@@ -133,9 +137,9 @@ pub opens : (plan : PlanView) (clients : List ClientState) (records : Option (Li
     → state_of plan 0 clients records bag log ≡ opening plan
 opens plan clients records bag log ec es eb en el = λ i. record (opening plan) { clients = ec i; servers = es i; bag = eb i; steps = en i; log = el i }
 
-pub started : (plan : PlanView) (s : State) (events : List Event) (k : Kept) → IsUncachedPlan plan → s ≡ opening plan → events ≡ [] → k.servers ≡ plan.config.servers → s.servers ≡ told_by plan.config.servers k.records
+pub started : (plan : PlanView) (s : State) (events : List Event) (k : Kept) → IsUncachedPlan plan → s ≡ opening plan → events ≡ [] → k.servers ≡ plan.config.servers → k.ceiling ≡ 0 → s.servers ≡ told_by plan.config.servers k.records
     → IsUncached plan (opening plan) → IsRouted plan (opening plan) → OneFlightPerOperation (opening plan) → IsWorld plan events s k
-started plan s events k h is none servers shown uncached routed flights = record {
+started plan s events k h is none servers ceiling shown uncached routed flights = record {
   plain = h;
   uncached = subst (λ (z : State). IsUncached plan z) (sym is) uncached;
   routed = subst (λ (z : State). IsRouted plan z) (sym is) routed;
@@ -145,6 +149,8 @@ started plan s events k h is none servers shown uncached routed flights = record
   steps = ap (λ (z : State). z.steps) is ∙ sym (ap length none);
   known = λ c op m. opening_known plan.ops 0 plan.config.clients c op (subst (λ (z : State). Among op (client_at z c).left) is m);
   servers = servers;
+  numbered = subst (λ (z : State). AreNumberedUpTo z.switch.counter z.bag) (sym is) (λ m never. absurd never);
+  ceiling = rw ceiling (omega arith);
   records = shown;
   told = λ tells. record { enabled = rw none tt; is = rw none is };
 }

@@ -8,7 +8,7 @@ use Rattle.far_base.specs.declared.record.Record.{Record}
 use Rattle.far_base.specs.declared.log.LogEntry.{LogEntry}
 use Rattle.far_base.specs.declared.log.LogEntry.TheVariants.{Answered}
 use Rattle.far_base.specs.declared.packet.Packet.{Packet}
-use Rattle.far_base.specs.declared.packet.Packet.TheVariants.{GetAns, WriteAns}
+use Rattle.far_base.specs.declared.packet.Packet.TheVariants.{WriteFwd, GetRep, WriteRep, GetAns, WriteAns}
 use Rattle.far_base.specs.declared.plan.OpLine.{OpLine}
 use Rattle.far_history.specs.RoomyLog.{RoomyLog}
 use Rattle.far_model.specs.Clients.{ClientState}
@@ -96,6 +96,19 @@ pub record Kept : Type 0 where
 abbrev pub kept_by : Option (List (List Record)) → ℕ → ℕ → ℕ → Kept
 kept_by records servers ceiling faults = record { records = records; servers = servers; ceiling = ceiling; faults = faults }
 
+-- the number in a packet of an operation, or 0
+abbrev pub number_of : Packet → ℕ
+number_of (WriteFwd caller op key num body) = num
+number_of (GetRep caller op key tag num body) = num
+number_of (WriteRep caller op key num body) = num
+number_of (GetAns caller op key num body near) = num
+number_of (WriteAns caller op key num kept) = num
+number_of _ = 0
+
+-- no message has a number above this
+abbrev pub AreNumberedUpTo : ℕ → List Message → Type 0
+AreNumberedUpTo top messages = (m : Message) → Among m messages → number_of m.packet ≤ top
+
 -- a plan, the events that happened, the state after them, and what the keeper has
 pub record Ran : Type 0 where
   pub plan : PlanView
@@ -119,5 +132,7 @@ pub record IsWorld (plan : PlanView) (events : List Event) (state : State) (keep
   pub steps : state.steps ≡ length events
   pub known : KnowsOperations plan state
   pub servers : keeper.servers ≡ plan.config.servers
+  pub numbered : AreNumberedUpTo state.switch.counter state.bag
+  pub ceiling : keeper.ceiling ≤ state.switch.counter
   pub records : state.servers ≡ told_by plan.config.servers keeper.records
   pub told : Tells keeper.records → IsRunOf plan events state

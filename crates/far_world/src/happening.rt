@@ -12,7 +12,7 @@ ghost use Rattle.far_model.specs.Uncached.{GoesTo, IsUncached, IsUncachedPlan};
 ghost use Rattle.far_outside.specs.Faults.{Rose};
 ghost use Rattle.far_base.specs.declared.event.Event.{Event};
 ghost use Rattle.far_model.specs.View.{opening_view};
-ghost use Rattle.far_world.specs.WorldView.{Logs, IsAfter, IsOperation, Tells, answered_in, state_of, CanHappen, KnowsOperations, SameLeft};
+ghost use Rattle.far_world.specs.WorldView.{Logs, AreNumberedUpTo, IsAfter, IsOperation, Tells, answered_in, number_of, state_of, CanHappen, KnowsOperations, SameLeft};
 
 use crate::bag::Bag;
 use crate::client::Client;
@@ -89,11 +89,15 @@ fn deliver_to_switch(
     requires cold { config.now.hot ≡ 0 }
     requires counter { counter.old + 1 < 2 ^ 64 }
     requires kind { GoesTo config.now packet.now Switch }
+    requires number { number_of packet.now ≤ counter.old }
+    requires numbered { AreNumberedUpTo counter.old bag.old.messages }
     requires there { place < length bag.old.messages }
     requires bag_room { 0 < bag.old.room }
     requires few { length bag.old.messages < 2 ^ 31 }
     requires log_room { 0 < log.old.room }
     requires steps { log.old.steps + 1 < 2 ^ 64 }
+    ensures rises { counter.old ≤ counter.new }
+    ensures numbered { AreNumberedUpTo counter.new bag.new.messages }
     ensures counter { (passes.pass (opening_view config.now 1 counter.old) packet.now).view ≡ opening_view config.now 1 counter.new }
     ensures bag { bag.new.messages ≡ remove bag.old.messages place ++ messages_from Switch (passes.passed_out (passes.pass (opening_view config.now 1 counter.old) packet.now)) }
     ensures log { Logs log.old log.new (passes.pass_notes packet.now (passes.pass (opening_view config.now 1 counter.old) packet.now)) }
@@ -162,6 +166,8 @@ fn deliver<K: Keeper>(
     requires plan { IsUncachedPlan plan.now }
     requires uncached { IsUncached plan.now (state_of plan.now counter.old clients.old (K.records keeper.old) bag.old.messages log.old) }
     requires servers { K.server_count keeper.old ≡ plan.now.config.servers }
+    requires numbered { AreNumberedUpTo counter.old bag.old.messages }
+    requires ceiling { K.ceiling keeper.old ≤ counter.old }
     requires there { place < length bag.old.messages }
     requires counter { counter.old + 1 < 2 ^ 64 }
     requires bag_room { 0 < bag.old.room }
@@ -171,6 +177,8 @@ fn deliver<K: Keeper>(
     ensures after { OnOk result (IsAfter plan.now (state_of plan.now counter.old clients.old (K.records keeper.old) bag.old.messages log.old) (Event.Deliver place) (state_of plan.now counter.new clients.new (K.records keeper.new) bag.new.messages log.new)) }
     ensures told { OnOk result (Tells (K.records keeper.old) → state_of plan.now counter.new clients.new (K.records keeper.new) bag.new.messages log.new ≡ events.happens plan.now (state_of plan.now counter.old clients.old (K.records keeper.old) bag.old.messages log.old) (Event.Deliver place)) }
     ensures tells { is_some (K.records keeper.new) ≡ is_some (K.records keeper.old) }
+    ensures numbered { OnOk result (AreNumberedUpTo counter.new bag.new.messages) }
+    ensures ceiling { OnOk result (K.ceiling keeper.new ≤ counter.new) }
     ensures steps { OnOk result (log.new.steps ≡ log.old.steps + 1) }
     ensures left { SameLeft clients.old clients.new }
     ensures err { OnErr result (state_of plan.now counter.new clients.new (K.records keeper.new) bag.new.messages log.new ≡ state_of plan.now counter.old clients.old (K.records keeper.old) bag.old.messages log.old) }
@@ -231,6 +239,8 @@ pub(crate) fn happen<K: Keeper>(
     requires uncached { IsUncached plan.now (state_of plan.now counter.old clients.old (K.records keeper.old) bag.old.messages log.old) }
     requires known { KnowsOperations plan.now (state_of plan.now counter.old clients.old (K.records keeper.old) bag.old.messages log.old) }
     requires servers { K.server_count keeper.old ≡ plan.now.config.servers }
+    requires numbered { AreNumberedUpTo counter.old bag.old.messages }
+    requires ceiling { K.ceiling keeper.old ≤ counter.old }
     requires can { CanHappen clients.old bag.old.messages event }
     requires counter { counter.old + 1 < 2 ^ 64 }
     requires bag_room { 0 < bag.old.room }
@@ -240,6 +250,8 @@ pub(crate) fn happen<K: Keeper>(
     ensures after { OnOk result (IsAfter plan.now (state_of plan.now counter.old clients.old (K.records keeper.old) bag.old.messages log.old) event (state_of plan.now counter.new clients.new (K.records keeper.new) bag.new.messages log.new)) }
     ensures told { OnOk result (Tells (K.records keeper.old) → state_of plan.now counter.new clients.new (K.records keeper.new) bag.new.messages log.new ≡ events.happens plan.now (state_of plan.now counter.old clients.old (K.records keeper.old) bag.old.messages log.old) event) }
     ensures tells { is_some (K.records keeper.new) ≡ is_some (K.records keeper.old) }
+    ensures numbered { OnOk result (AreNumberedUpTo counter.new bag.new.messages) }
+    ensures ceiling { OnOk result (K.ceiling keeper.new ≤ counter.new) }
     ensures steps { OnOk result (log.new.steps ≡ log.old.steps + 1) }
     ensures known { OnOk result (KnowsOperations plan.now (state_of plan.now counter.new clients.new (K.records keeper.new) bag.new.messages log.new)) }
     ensures err { OnErr result (state_of plan.now counter.new clients.new (K.records keeper.new) bag.new.messages log.new ≡ state_of plan.now counter.old clients.old (K.records keeper.old) bag.old.messages log.old) }

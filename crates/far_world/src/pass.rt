@@ -8,13 +8,14 @@ pub(crate) struct Passed {
     pub note: Option<LogEntry>,
 }
 
-ghost use Rattle.std.specs.Prelude.{◌≡◌, ◌+◌, ◌<◌, ◌^◌, ℕ, false, Some, None, option_to_list};
+ghost use Rattle.std.specs.Prelude.{◌≡◌, ◌+◌, ◌<◌, ◌≤◌, ◌^◌, ℕ, false, Some, None, option_to_list};
 ghost use Rattle.far_base.specs.declared.party.Party.{Party};
 ghost use Rattle.far_base.specs.declared.log.LogEntry.TheVariants.{Emitted};
 ghost use Rattle.far_base.specs.declared.party.Party.TheVariants.{Client, Server, Switch};
 ghost use Rattle.far_model.specs.View as view;
 ghost use Rattle.far_model.specs.Pass as model;
 ghost use Rattle.far_model.specs.Uncached.{GoesTo};
+ghost use Rattle.far_world.specs.WorldView.{number_of};
 
 /// The server of a key.
 fn server_of(config: &Config, key: &Key) -> Party
@@ -49,7 +50,10 @@ pub(crate) fn pass(config: &Config, counter: u64, packet: &Packet) -> Passed
     requires cold { config.now.hot ≡ 0 }
     requires room { counter + 1 < 2 ^ 64 }
     requires kind { GoesTo config.now packet.now Switch }
+    requires number { number_of packet.now ≤ counter }
     ensures passed { model.pass (view.opening_view config.now 1 counter) packet.now ≡ record { view = view.opening_view config.now 1 result.counter; first = Some result.out; second = None } }
+    ensures rises { counter ≤ result.counter }
+    ensures number { number_of result.out.packet ≤ result.counter }
     ensures notes { option_to_list result.note ≡ model.pass_notes packet.now (model.pass (view.opening_view config.now 1 counter) packet.now) }
 {
     flight_laws::uncached_passes();

@@ -90,3 +90,21 @@ fn the_second_put_reaches_the_server_first(rt: HostRuntime) -> Result<(), Fail> 
     assert!(rt; keeper.top(0) == Ok(2));
     Ok(())
 }
+
+#[test]
+fn a_call_that_failed_is_made_again(rt: HostRuntime) -> Result<(), Fail> {
+    let alloc = rt.alloc();
+    let keeper = ScriptedKeeper::new(alloc, Vec::from_array(alloc, [2])?);
+    let mut world = World::start(alloc, two_puts(alloc)?, keeper).map_err(|_| "start")?;
+    let mut failed = false;
+    for _ in 0..11 {
+        if !world.quiet() {
+            if let Err(StepFault::KeeperFailed) = world.step(0) {
+                failed = true;
+            }
+        }
+    }
+    assert!(rt; failed);
+    assert!(rt; world.finished());
+    Ok(())
+}

@@ -6,6 +6,7 @@ use Rattle.far_model.specs.Members.{Among}
 use Rattle.far_model.specs.State.{nobody}
 use Rattle.far_world.proofs.Lists.{get_or_any, on_any}
 use Rattle.far_world.proofs.Delivering.{by_rule, send_after}
+use Rattle.far_world.proofs.Numbering.{numbered_sent}
 use Rattle.far_world.proofs.Scripts.{sent_left, set_known}
 use Rattle.far_world.specs.WorldView.{state_of}
 use Rattle.far_world.proofs.happening.happen.Goals as goal
@@ -34,3 +35,7 @@ returns-in-Send-clause-after g c =
 
 pub returns-in-Deliver-clause-known : goal.returns-in-Deliver-clause-known
 returns-in-Deliver-clause-known g c = on_any (λ n op h. c.requires.known n op (subst (λ (left : List ℕ). Among op left) (c.deliver.ensures.left n) h)) c.deliver.result
+
+pub returns-in-Send-clause-numbered : goal.returns-in-Send-clause-numbered
+returns-in-Send-clause-numbered g c =
+    numbered_sent c.args.counter.now c.args.bag.now.messages c.send.new.bag.messages c.deref.result.now c.in-Send.number (get_or c.args.clients.now c.in-Send.number c.index-clients-number.result) c.requires.numbered c.send.ensures.bag

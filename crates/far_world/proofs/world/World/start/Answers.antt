@@ -17,5 +17,5 @@ invariant_of-result g c =
     (c.in-Ok.ensures ∙ (ap (λ (ops : List OpLine). clients_from ops 0 c.plan.inside.config.clients) c.deref.ensures.value ∙ ap (λ (p : PlanView). clients_from p.ops 0 p.config.clients) c.plan.view_is))
     (ap (told_by c.args.plan.config.servers) fresh ∙ told_fresh c.args.plan.config.servers (g.K.Keeper.records c.args.keeper))
     c.new.ensures c.new-2.ensures.steps c.new-2.ensures.lines)
-    c.new-3.ensures.items (c.in_default.ensures.servers ∙ count) refl
+    c.new-3.ensures.items (c.in_default.ensures.servers ∙ count) c.in_default.ensures.ceiling refl
     (c.uncached_runs.ensures.opens c.args.plan c.requires) (c.routes.ensures.opens c.args.plan) (c.one_flight.ensures.opens c.args.plan)

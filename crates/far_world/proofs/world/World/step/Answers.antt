@@ -37,7 +37,7 @@ invariant_of-self-in_err-happen g c =
     (written_back c.happen.new.clients w.clients.items w.clients.len (c.happen.auto.clients ∙ c.deref_mut.ensures.len) (sym w.clients.ok.0)) refl refl refl refl in
     rw c.make_room.ensures.events (stays w.plan w.events.items s t (kept_by records (g.K.Keeper.server_count w.keeper) (g.K.Keeper.ceiling w.keeper) (g.K.Keeper.fault_count w.keeper))
     (kept_by new (g.K.Keeper.server_count c.happen.new.keeper) (g.K.Keeper.ceiling c.happen.new.keeper) (g.K.Keeper.fault_count c.happen.new.keeper)) c.self.invariant
-    (back ∙ (c.in_err-happen.ensures.err ∙ room)) c.in_err-happen.ensures.same_records c.happen.ensures.same_servers)
+    (back ∙ (c.in_err-happen.ensures.err ∙ room)) c.in_err-happen.ensures.same_records c.happen.ensures.same_servers c.in_err-happen.ensures.same_ceiling)
 
 pub invariant_of-self-2 : goal.invariant_of-self-2
 invariant_of-self-2 g c =
@@ -64,7 +64,7 @@ invariant_of-self-2 g c =
     (kept_by new (g.K.Keeper.server_count c.happen.new.keeper) (g.K.Keeper.ceiling c.happen.new.keeper) (g.K.Keeper.fault_count c.happen.new.keeper)) h able
     (λ tells. back ∙ (c.in_ok-happen.ensures.told tells ∙ ap (λ (z : State). happens w.plan z e) room)) c.happen.ensures.tells
     (c.in_ok-happen.ensures.steps ∙ ap (λ (n : ℕ). n + 1) c.make_room.ensures.steps)
-    (subst (λ (z : State). KnowsOperations w.plan z) (sym back) c.in_ok-happen.ensures.known) c.happen.ensures.same_servers refl
+    (subst (λ (z : State). KnowsOperations w.plan z) (sym back) c.in_ok-happen.ensures.known) c.happen.ensures.same_servers refl c.in_ok-happen.ensures.numbered c.in_ok-happen.ensures.ceiling
     (c.uncached_runs.ensures.step_with w.plan a.keeping s e h.plain h.uncached a.answers able)
     (c.routes.ensures.step_with w.plan a.keeping s e h.routed h.flights a.answers able)
     (c.one_flight.ensures.step_with w.plan a.keeping s e h.routed h.flights a.answers able)
@@ -92,3 +92,6 @@ returns-clause-work g c =
     let a : IsAfter w.plan s e t = subst (λ (z : State). IsAfter w.plan z e t) room (subst (λ (z : State). IsAfter w.plan begun e z) (sym back) c.in_ok-happen.ensures.after) in
     let h = c.self.invariant in
     rw (← c.self.view_is) (falls w.plan s t e a (c.uncached_work.ensures.lowers_with w.plan a.keeping s e h.plain h.uncached a.answers able))
+
+pub happen-requires-clause-numbered : goal.happen-requires-clause-numbered
+happen-requires-clause-numbered g c = rw c.make_room.ensures.messages c.self.invariant.numbered
