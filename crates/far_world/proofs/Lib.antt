@@ -1,5 +1,6 @@
-mod Delivering
 mod Bytes
+mod Delivering
+mod Drawing
 mod Histories
 mod Lists
 mod Numbering

@@ -17,6 +17,9 @@ use Rattle.far_model.specs.Runs.{IsRun, run}
 use Rattle.far_model.specs.State.{State, opening, client_at, clients_from, nobody}
 use Rattle.far_model.specs.Uncached.{IsUncached, IsUncachedPlan}
 use Rattle.far_model.specs.Work.{work_left}
+use Rattle.far_world.proofs.Drawing.{drawn_lasts}
+use Rattle.far_world.specs.Drawn.{drawn_in}
+use Rattle.flight_laws.proofs.WithoutCache.{only_messages}
 use Rattle.far_world.proofs.Lists.{slice_get_there}
 use Rattle.far_world.specs.WorldView.{AreNumberedUpTo, CanHappen, IsAfter, IsOperation, IsWorld, Kept, KnowsOperations, Tells, state_of, told_by}
 
@@ -81,6 +84,7 @@ module _ (plan : PlanView) (s t : State) (e : Event) (a : IsAfter plan s e t) wh
         steps = omega (arith, steps, h.steps, length-append events (e ∷ []));
         known = known;
         servers = servers ∙ h.servers;
+        drawn = subst (λ (z : State). drawn_in z.log ≡ z.switch.counter) (sym a.after) (drawn_lasts plan a.keeping s e h.uncached (only_messages plan s e h.plain h.uncached able) h.drawn);
         numbered = numbered;
         ceiling = ceiling;
         records = shown;
@@ -103,6 +107,7 @@ stays plan events s t k new h is records servers ceiling = subst (λ (z : State)
   steps = h.steps;
   known = h.known;
   servers = servers ∙ h.servers;
+  drawn = h.drawn;
   numbered = h.numbered;
   ceiling = rw ceiling h.ceiling;
   records = h.records ∙ ap (told_by plan.config.servers) (sym records);
@@ -149,6 +154,7 @@ started plan s events k h is none servers ceiling shown uncached routed flights 
   steps = ap (λ (z : State). z.steps) is ∙ sym (ap length none);
   known = λ c op m. opening_known plan.ops 0 plan.config.clients c op (subst (λ (z : State). Among op (client_at z c).left) is m);
   servers = servers;
+  drawn = subst (λ (z : State). drawn_in z.log ≡ z.switch.counter) (sym is) refl;
   numbered = subst (λ (z : State). AreNumberedUpTo z.switch.counter z.bag) (sym is) (λ m never. absurd never);
   ceiling = rw ceiling (omega arith);
   records = shown;

@@ -1,3 +1,4 @@
+pub mod Drawn
 pub mod WorldView
 pub mod RoomyBag
 pub mod Linearizable

@@ -11,6 +11,7 @@ use Rattle.far_base.specs.declared.packet.Packet.{Packet}
 use Rattle.far_base.specs.declared.packet.Packet.TheVariants.{WriteFwd, GetRep, WriteRep, GetAns, WriteAns}
 use Rattle.far_base.specs.declared.plan.OpLine.{OpLine}
 use Rattle.far_history.specs.RoomyLog.{RoomyLog}
+use Rattle.far_world.specs.Drawn.{drawn_in}
 use Rattle.far_model.specs.Clients.{ClientState}
 use Rattle.far_model.specs.Events.{Keeping, send_choices, deliver_choices, can_send, happens_with}
 use Rattle.far_model.specs.Flights.{IsRouted, OneFlightPerOperation}
@@ -132,6 +133,7 @@ pub record IsWorld (plan : PlanView) (events : List Event) (state : State) (keep
   pub steps : state.steps ≡ length events
   pub known : KnowsOperations plan state
   pub servers : keeper.servers ≡ plan.config.servers
+  pub drawn : drawn_in state.log ≡ state.switch.counter
   pub numbered : AreNumberedUpTo state.switch.counter state.bag
   pub ceiling : keeper.ceiling ≤ state.switch.counter
   pub records : state.servers ≡ told_by plan.config.servers keeper.records
