@@ -1,4 +1,4 @@
-use far_outside::{CleanSink, CleanSource, MemSink, MemSource};
+use far_outside::{CleanSink, CleanSource, Failed, MemSink, MemSource, Source};
 use run_main::{Ended, Status, top_calm};
 use server_keeper::{MapKeeper, ScriptedKeeper};
 use std::alloc::Global;
@@ -44,6 +44,26 @@ const ROWS: [(&str, &str, &str, Status); 7] = [
         Status::Usage,
     ),
 ];
+
+/// A source that gives one byte at a time.
+#[derive(Drop)]
+struct OneByOne<S: Source> {
+    whole: S,
+}
+
+impl<S: Source> Source for OneByOne<S> {
+    ghost left = { λ s. S.left s.whole };
+
+    ghost fault_count = { λ s. S.fault_count s.whole };
+
+    fn faults(&self) -> u64 {
+        self.whole.faults()
+    }
+
+    fn read(&mut self, buf: &mut [u8]) -> Result<u32, Failed> {
+        self.whole.read(&mut buf[..1])
+    }
+}
 
 fn words_of(alloc: Global, word: &str) -> Result<Vec<String>, Fail> {
     let mut words = Vec::new(alloc);
@@ -112,6 +132,27 @@ fn a_failed_call_of_the_keeper_is_the_answer(rt: HostRuntime) -> Result<(), Fail
         } = top_calm(alloc, &words, &mut source, &mut sink, keeper);
         assert_eq!(rt; status, Status::Done);
         assert!(rt; sink.bytes() == ROWS[1].2.as_bytes());
+    }
+    Ok(())
+}
+
+#[test]
+fn bytes_may_come_one_by_one(rt: HostRuntime) -> Result<(), Fail> {
+    let alloc = rt.alloc();
+    let words = words_of(alloc, "replay")?;
+    let input = ROWS[1].1.as_bytes();
+    // The thirtieth read stands in the middle of the input.
+    for (fails, expected, output) in [(0, Status::Done, ROWS[1].2), (30, Status::ReadFault, "")] {
+        let mut source = OneByOne {
+            whole: MemSource::new(input.to_vec(alloc)?, [fails].to_vec(alloc)?),
+        };
+        let mut sink = CleanSink::new(alloc);
+        let Ended {
+            status,
+            keeper: _keeper,
+        } = top_calm(alloc, &words, &mut source, &mut sink, MapKeeper::new(alloc));
+        assert_eq!(rt; status, expected);
+        assert!(rt; sink.bytes() == output.as_bytes());
     }
     Ok(())
 }
