@@ -155,7 +155,8 @@ pub fn top_calm<S: Source, D: Sink, K: Keeper>(
     ensures written { Tells (K.records keeper) → WroteTold (map string_bytes words.now) (S.left source.old) (K.records result.keeper) (D.written sink.old) (D.written sink.new) result.status }
     ensures end { result.status ≡ Status.Done → ReadToEnd (S.left source.old) (S.left source.new) }
 
-    // Where there was no run the keeper is as it was.
+    // Other words read nothing, and where there was no run the keeper is as it was.
+    ensures nothing_read { ¬ (IsReplay (map string_bytes words.now)) → S.left source.new ≡ S.left source.old }
     ensures no_run { ¬ (IsReplay (map string_bytes words.now)) → result.keeper ≡ keeper }
     ensures unread { result.status ≡ Status.ReadFault → result.keeper ≡ keeper }
     ensures unbuilt { result.status ≡ Status.NotBuilt → result.keeper ≡ keeper }
