@@ -8,7 +8,7 @@ use Rattle.far_base.specs.declared.plan.Op.{Op}
 use Rattle.far_base.specs.declared.plan.Op.TheVariants.{Get, Put, Del}
 use Rattle.far_base.specs.declared.plan.OpLine.{OpLine}
 use Rattle.far_base.specs.declared.plan.Order.{Order}
-use Rattle.far_base.specs.declared.plan.Order.TheVariants.{Admit, Evict, Snap, Stop}
+use Rattle.far_base.specs.declared.plan.Order.TheVariants.{Admit, Evict, Snap, Stop, StopAt}
 use Rattle.far_base.specs.declared.plan.TheConstants.{CLIENT_LIMIT, SERVER_LIMIT, SLOT_LIMIT, HOT_LIMIT, OP_LIMIT, ORDER_LIMIT, SNAP_LIMIT, STOP_LIMIT, STEP_LIMIT}
 
 -- sizes within the limits
@@ -34,30 +34,35 @@ pub record IsOpLine (clients : ℕ) (line : OpLine) : Type 0 where
   pub client : line.client < clients
   pub body : FitsOp line.op line.body
 
--- the step from which an order is due
-abbrev pub due_step : Order → ℕ
-due_step (Admit step key) = step
-due_step (Evict step key) = step
-due_step (Snap step) = step
-due_step (Stop step) = step
+-- the number in an order: of the step from which it is due, or of the pass of its kind
+abbrev pub due_number : Order → ℕ
+due_number (Admit step key) = step
+due_number (Evict step key) = step
+due_number (Snap step) = step
+due_number (Stop step) = step
+due_number (StopAt kind times) = times
 
 abbrev pub is_slot_order : Order → Bool
 is_slot_order (Admit step key) = true
 is_slot_order (Evict step key) = true
 is_slot_order (Snap step) = false
 is_slot_order (Stop step) = false
+is_slot_order (StopAt kind times) = false
 
 abbrev pub is_snap : Order → Bool
 is_snap (Admit step key) = false
 is_snap (Evict step key) = false
 is_snap (Snap step) = true
 is_snap (Stop step) = false
+is_snap (StopAt kind times) = false
 
+-- an order to stop the switch, of either form
 abbrev pub is_stop : Order → Bool
 is_stop (Admit step key) = false
 is_stop (Evict step key) = false
 is_stop (Snap step) = false
 is_stop (Stop step) = true
+is_stop (StopAt kind times) = true
 
 -- a plan within all limits, whose operations are of its clients and have the bodies that they need
 pub record IsPlan (plan : PlanView) : Type 0 where
@@ -67,4 +72,4 @@ pub record IsPlan (plan : PlanView) : Type 0 where
   pub slot_orders : count_by is_slot_order plan.orders ≤ ORDER_LIMIT
   pub snaps : count_by is_snap plan.orders ≤ SNAP_LIMIT
   pub stops : count_by is_stop plan.orders ≤ STOP_LIMIT
-  pub steps : AllByRecursion (λ order. due_step order ≤ STEP_LIMIT) plan.orders
+  pub steps : AllByRecursion (λ order. due_number order ≤ STEP_LIMIT) plan.orders

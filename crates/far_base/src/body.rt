@@ -2,7 +2,7 @@ use crate::front::put_front;
 use std::marker::Model;
 
 /// The greatest number of bytes in a body.
-pub const BODY_LIMIT: usize = 128;
+pub const BODY_LIMIT: usize = 256;
 
 /// A value of at most `BODY_LIMIT` bytes, or none: a deleted key has an absent body.
 /// Contracts see an option of a list of bytes.

@@ -24,8 +24,8 @@ pub use memory::Memory;
 pub use packet::{Message, Out, Packet};
 pub use party::Party;
 pub use plan::{
-    CLIENT_LIMIT, Config, HOT_LIMIT, OP_LIMIT, ORDER_LIMIT, Op, OpLine, Order, Plan, SERVER_LIMIT,
-    SLOT_LIMIT, SNAP_LIMIT, STEP_LIMIT, STOP_LIMIT,
+    CLIENT_LIMIT, Config, HOT_LIMIT, OP_LIMIT, ORDER_LIMIT, Op, OpLine, Order, PassKind, Plan,
+    SERVER_LIMIT, SLOT_LIMIT, SNAP_LIMIT, STEP_LIMIT, STOP_LIMIT,
 };
 pub use record::Record;
 pub use slot_state::{Due, SlotState};

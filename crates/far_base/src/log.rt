@@ -46,11 +46,13 @@ pub enum LogEntry {
         key: Key,
         num: u64,
     },
-    /// A snapshot is complete; `count` lines of its items follow.
+    /// A snapshot is complete; `count` lines of its items follow. Of its parts `same` were those of the snapshot
+    /// before.
     Snapped {
         id: u32,
         point: u64,
         count: u32,
+        same: u32,
     },
     /// A record of the snapshot, and its slot.
     SnapItem {

@@ -171,6 +171,17 @@ pub enum Packet {
         server: u32,
         top: u64,
     },
+    /// switch to controller: when the snapshot began the slot had what the last completed snapshot has of it
+    SnapSame {
+        id: u32,
+        slot: u32,
+    },
+    /// controller to switch: begin this snapshot; a slot with what snapshot `base` has of it may say just that
+    SnapFrom {
+        epoch: u32,
+        id: u32,
+        base: u32,
+    },
 }
 
 /// A packet and to whom it goes.

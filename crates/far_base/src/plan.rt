@@ -23,7 +23,7 @@ pub const ORDER_LIMIT: u32 = 1024;
 /// The greatest number of orders to take a snapshot.
 pub const SNAP_LIMIT: u32 = 64;
 
-/// The greatest number of orders to stop the switch.
+/// The greatest number of orders to stop the switch, of both forms together.
 pub const STOP_LIMIT: u32 = 64;
 
 /// The greatest number in an order.
@@ -46,13 +46,29 @@ pub struct OpLine {
     pub body: Body,
 }
 
-/// A request to the controller or the switch, due once so many steps were made.
+/// A kind of packet that comes to the switch. `SnapStart` is the start of a snapshot of either form.
+#[derive(Clone, Copy, Debug, PartialEq, Eq)]
+pub enum PassKind {
+    GetReq,
+    WriteReq,
+    GetRep,
+    WriteRep,
+    Admit,
+    Peek,
+    Remove,
+    SnapStart,
+    SnapRead,
+}
+
+/// A request to the controller or the switch, due once so many steps were made, or at `StopAt` once
+/// so many packets of a kind have come to a running switch.
 #[derive(Clone, Copy, Debug, PartialEq, Eq)]
 pub enum Order {
     Admit { step: u64, key: Key },
     Evict { step: u64, key: Key },
     Snap { step: u64 },
     Stop { step: u64 },
+    StopAt { kind: PassKind, times: u64 },
 }
 
 /// The sizes of a world. `hot` is the count at which a key grows hot, and 0 means never.

@@ -1,10 +1,10 @@
 -- The rules of the controller.
-use Rattle.std.specs.Prelude.{◌≡◌, ℕ, zero, suc, ◌+◌, ◌-◌, Bool, true, false, ◌&&◌, not, nat_eq, nat_le, nat_lt, if◌then◌else◌, List, [], ◌∷◌, ◌++◌, length, map, replicate, slice_index_or, slice_set, is_some, drop, Option, None, Some}
+use Rattle.std.specs.Prelude.{◌≡◌, ℕ, zero, suc, ◌+◌, ◌-◌, Bool, true, false, ◌&&◌, not, nat_eq, nat_le, nat_lt, if◌then◌else◌, List, [], ◌∷◌, ◌++◌, length, map, replicate, slice_get, slice_index_or, slice_set, is_some, drop, Option, None, Some}
 use Rattle.far_base.specs.declared.log.LogEntry.{LogEntry}
 use Rattle.far_base.specs.declared.log.LogEntry.TheVariants.{Admitted, Evicted, Kept as KeptNote, Snapped}
 use Rattle.far_base.specs.declared.packet.Out.{Out}
 use Rattle.far_base.specs.declared.packet.Packet.{Packet}
-use Rattle.far_base.specs.declared.packet.Packet.TheVariants.{GetReq, WriteReq, GetFwd, WriteFwd, GetRep, WriteRep, GetAns, WriteAns, Hot, Admit, AdmitAck, Peek, PeekAns, Remove, RemoveAns, SnapStart, SnapBegun, SnapRead, SnapPart, Store, Stored, Release, Ask, Told, TopAsk, TopIs}
+use Rattle.far_base.specs.declared.packet.Packet.TheVariants.{GetReq, WriteReq, GetFwd, WriteFwd, GetRep, WriteRep, GetAns, WriteAns, Hot, Admit, AdmitAck, Peek, PeekAns, Remove, RemoveAns, SnapStart, SnapBegun, SnapRead, SnapPart, Store, Stored, Release, Ask, Told, TopAsk, TopIs, SnapSame, SnapFrom}
 use Rattle.far_base.specs.declared.party.Party.TheVariants.{Client, Switch, Server, Controller}
 use Rattle.far_base.specs.declared.plan.Config.{Config}
 use Rattle.far_base.specs.declared.record.Record.{Record}
@@ -14,7 +14,7 @@ use Rattle.far_base.specs.declared.slot_state.Due.TheVariants.{Peeked, Stored as
 use Rattle.far_model.specs.Evictions.{Eviction, Next, Send, Store as StoreNext, Done, Kept, is_free, is_held, has_key, holds_key, is_admitting, first_place, state_at, key_in, tag_in, victim, hand_after, begins_eviction, peek_of, after_peek, after_store, after_removal, waits_for, waits_job, storing, removing}
 use Rattle.far_model.specs.Parties.{Turn, idle, to_party}
 use Rattle.far_model.specs.Rounds.{Round, Telling, new_round, has_told, tells_one, telling_at, asks_tops, has_top, ready_counter}
-use Rattle.far_model.specs.Snapshots.{Job, SnapshotView, no_snapshot, new_job, has_part, has_begun, is_whole, completed, part_reads, view_items, view_records}
+use Rattle.far_model.specs.Snapshots.{Job, SnapshotView, no_snapshot, new_job, has_part, has_begun, is_whole, completed, part_reads, view_items, view_records, with_part, with_same}
 use Rattle.far_model.specs.View.{server_of}
 
 pub record ControllerState : Type 0 where
@@ -26,6 +26,7 @@ pub record ControllerState : Type 0 where
   pub eviction : Option Eviction
   pub job : Option Job
   pub last : SnapshotView
+  pub last_epoch : ℕ
   pub round : Option Round
   pub next_job : ℕ
   pub next_id : ℕ
@@ -41,6 +42,7 @@ opening_controller config = record {
   eviction = None;
   job = None;
   last = no_snapshot;
+  last_epoch = 0;
   round = None;
   next_job = 1;
   next_id = 1;
@@ -151,24 +153,32 @@ removal_answered config c i tag done num body (Some e) = if waits_for Removed i 
 
 -- ---- snapshots
 
+-- whether the last completed snapshot is of the present epoch
+abbrev pub is_last_present : ControllerState → Bool
+is_last_present c = nat_eq c.last_epoch c.epoch && nat_lt 0 c.last.id
+
+-- a snapshot begins by difference where the last completed one is of the present epoch
+abbrev pub start_packet : ControllerState → Packet
+start_packet c = if is_last_present c then SnapFrom c.epoch c.next_id c.last.id else SnapStart c.epoch c.next_id
+
 -- the order to take a snapshot
 abbrev pub start_snapshot : ControllerState → Turn ControllerState
 start_snapshot c = record {
   state = record c { job = Some (new_job c.next_id (length c.slots)); next_id = c.next_id + 1 };
-  out = to_party Switch (SnapStart c.epoch c.next_id) ∷ [];
+  out = to_party Switch (start_packet c) ∷ [];
   notes = [];
 }
 
 -- a whole job is the last completed snapshot, and all clients are told its point
-abbrev pub completes : Config → ControllerState → SnapshotView → Turn ControllerState
-completes config c s = record {
-  state = record c { job = None; last = s };
+abbrev pub completes : Config → ControllerState → SnapshotView → ℕ → Turn ControllerState
+completes config c s sames = record {
+  state = record c { job = None; last = s; last_epoch = c.epoch };
   out = to_clients 0 config.clients (Release s.point);
-  notes = Snapped s.id s.point (length (view_records s.views)) ∷ view_items 0 s.views;
+  notes = Snapped s.id s.point (length (view_records s.views)) sames ∷ view_items 0 s.views;
 }
 
 abbrev pub job_turn : Config → ControllerState → Job → List Out → Turn ControllerState
-job_turn config c job out = if is_whole job then completes config c (completed job) else record { state = record c { job = Some job }; out = out; notes = [] }
+job_turn config c job out = if is_whole job then completes config c (completed job) job.sames else record { state = record c { job = Some job }; out = out; notes = [] }
 
 abbrev pub snapshot_begun : Config → ControllerState → ℕ → ℕ → Option Job → Turn ControllerState
 snapshot_begun config c id point None = idle c
@@ -179,8 +189,19 @@ snapshot_begun config c id point (Some job) = if nat_eq job.id id && not (has_be
 abbrev pub part_came : Config → ControllerState → ℕ → ℕ → Option Record → Option Job → Turn ControllerState
 part_came config c id i view None = idle c
 part_came config c id i view (Some job) = if nat_eq job.id id && (nat_lt i (length job.parts) && not (has_part job i))
-    then job_turn config c (record job { parts = slice_set job.parts i (Some view) }) []
+    then job_turn config c (with_part job i view) []
     else idle c
+
+-- the last completed snapshot's view of the slot, where it has one, is added as the part
+abbrev pub same_part : Config → ControllerState → ℕ → ℕ → Job → Option (Option Record) → Turn ControllerState
+same_part config c id i job None = idle c
+same_part config c id i job (Some view) = if nat_eq job.id id && (nat_lt i (length job.parts) && not (has_part job i))
+    then job_turn config c (with_same job i view) []
+    else idle c
+
+abbrev pub same_came : Config → ControllerState → ℕ → ℕ → Option Job → Turn ControllerState
+same_came config c id i None = idle c
+same_came config c id i (Some job) = same_part config c id i job (slice_get c.last.views i)
 
 -- ---- rounds of recovery
 
@@ -277,6 +298,7 @@ controller_takes config c (PeekAns i tag latest num body) = peek_answered config
 controller_takes config c (RemoveAns i tag done latest num body) = removal_answered config c i tag done num body c.eviction
 controller_takes config c (SnapBegun id point) = snapshot_begun config c id point c.job
 controller_takes config c (SnapPart id i view) = part_came config c id i view c.job
+controller_takes config c (SnapSame id i) = same_came config c id i c.job
 controller_takes config c (Stored job) = store_answered config c job c.eviction
 controller_takes config c (Told number caller total item) = client_told config c number caller total item c.round
 controller_takes config c (TopIs number server top) = top_told config c number server top c.round

@@ -2,7 +2,7 @@
 use Rattle.std.specs.Prelude.{◌≡◌, ℕ, zero, suc, ◌+◌, Bool, true, false, ◌&&◌, ◌||◌, not, nat_eq, nat_le, nat_lt, if◌then◌else◌, List, [], ◌∷◌, ◌++◌, length, map, remove, slice_get, slice_set, is_some, Option, None, Some}
 use Rattle.std.specs.List.{list_any}
 use Rattle.far_base.specs.PlanView.{PlanView}
-use Rattle.far_base.specs.Limits.{due_step}
+use Rattle.far_base.specs.Limits.{due_number}
 use Rattle.far_base.specs.declared.event.Event.{Event}
 use Rattle.far_base.specs.declared.event.Event.TheVariants.{Send, Deliver, Tick, Recover, Restart, Order as OrderOf}
 use Rattle.far_base.specs.declared.log.LogEntry.{LogEntry}
@@ -14,13 +14,14 @@ use Rattle.far_base.specs.declared.party.Party.{Party}
 use Rattle.far_base.specs.declared.party.Party.TheVariants.{Client, Switch, Server, Controller}
 use Rattle.far_base.specs.declared.plan.OpLine.{OpLine}
 use Rattle.far_base.specs.declared.plan.Order.{Order}
-use Rattle.far_base.specs.declared.plan.Order.TheVariants.{Admit as AdmitOrder, Evict as EvictOrder, Snap as SnapOrder, Stop as StopOrder}
+use Rattle.far_base.specs.declared.plan.Order.TheVariants.{Admit as AdmitOrder, Evict as EvictOrder, Snap as SnapOrder, Stop as StopOrder, StopAt as StopAtOrder}
 use Rattle.far_base.specs.declared.record.Record.{Record}
 use Rattle.far_model.specs.Clients.{ClientState, line_of, request, client_takes}
 use Rattle.far_model.specs.Controller.{ControllerState, wanted, tick, evict_key, start_snapshot, start_recovery, ready, restarted, controller_takes}
 use Rattle.far_model.specs.KeyedRecords.{by_key}
 use Rattle.far_model.specs.Parties.{Turn, idle, to_party, messages_from}
 use Rattle.far_model.specs.Pass.{Passed, pass, passed_out, pass_notes}
+use Rattle.far_model.specs.Passes.{pass_count, with_pass}
 use Rattle.far_model.specs.Servers.{server_keeps, server_reply}
 use Rattle.far_model.specs.State.{State, client_at, records_at, noted, stepped}
 use Rattle.far_model.specs.View.{opening_view}
@@ -40,7 +41,7 @@ abbrev pub controller_turn : State → List Message → Turn ControllerState →
 controller_turn s rest t = record (stepped s (rest ++ messages_from Controller t.out) t.notes) { controller = t.state }
 
 abbrev pub switch_turn : State → List Message → Packet → Passed → State
-switch_turn s rest packet p = record (stepped s (rest ++ messages_from Switch (passed_out p)) (pass_notes packet p)) { switch = p.view }
+switch_turn s rest packet p = record (stepped s (rest ++ messages_from Switch (passed_out p)) (pass_notes packet p)) { switch = p.view; passes = with_pass s.passes packet }
 
 -- replies to the switch's forwards go to the switch, and those to the controller's packets to the controller
 abbrev pub reply_goes_to : Packet → Party
@@ -107,6 +108,7 @@ does_order plan s (Some (AdmitOrder step key)) = controller_turn s s.bag (idle (
 does_order plan s (Some (EvictOrder step key)) = controller_turn s s.bag (evict_key key s.controller)
 does_order plan s (Some (SnapOrder step)) = controller_turn s s.bag (start_snapshot s.controller)
 does_order plan s (Some (StopOrder step)) = stops plan s
+does_order plan s (Some (StopAtOrder kind times)) = stops plan s
 
 -- the state after an event, whatever the keepers answer
 abbrev pub happens_with : PlanView → Keeping → State → Event → State
@@ -173,6 +175,15 @@ is_possible s (AdmitOrder step key) = not (is_some s.controller.round)
 is_possible s (EvictOrder step key) = s.running && (not (is_some s.controller.eviction) && not (is_some s.controller.round))
 is_possible s (SnapOrder step) = s.running && (not (is_some s.controller.job) && not (is_some s.controller.round))
 is_possible s (StopOrder step) = s.running
+is_possible s (StopAtOrder kind times) = s.running
+
+-- what an order waits for, as far as it has come: the steps, or the passes of a kind
+abbrev pub counted_for : State → Order → ℕ
+counted_for s (AdmitOrder step key) = s.steps
+counted_for s (EvictOrder step key) = s.steps
+counted_for s (SnapOrder step) = s.steps
+counted_for s (StopOrder step) = s.steps
+counted_for s (StopAtOrder kind times) = pass_count s.passes kind
 
 -- ---- the choices
 
@@ -195,10 +206,10 @@ abbrev pub is_none_left : List Event → Bool
 is_none_left [] = true
 is_none_left (e ∷ es) = false
 
--- the first order that is not done can happen where it is possible, once its step has come or nothing else can happen
+-- the first order that is not done can happen where it is possible, once its number has come or nothing else can happen
 abbrev pub is_order_due : State → Option Order → Bool
 is_order_due s None = false
-is_order_due s (Some order) = is_possible s order && (nat_le (due_step order) s.steps || is_none_left (choices s))
+is_order_due s (Some order) = is_possible s order && (nat_le (due_number order) (counted_for s order) || is_none_left (choices s))
 
 abbrev pub is_order_enabled : PlanView → State → Bool
 is_order_enabled plan s = is_order_due s (slice_get plan.orders s.done)

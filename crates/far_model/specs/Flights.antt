@@ -3,7 +3,7 @@ use Rattle.std.specs.Prelude.{◌≡◌, ℕ, ◌<◌, Bool, true, false, nat_eq
 use Rattle.std.specs.List.{count_by}
 use Rattle.far_base.specs.declared.packet.Message.{Message}
 use Rattle.far_base.specs.declared.packet.Packet.{Packet}
-use Rattle.far_base.specs.declared.packet.Packet.TheVariants.{GetReq, WriteReq, GetFwd, WriteFwd, GetRep, WriteRep, GetAns, WriteAns, Hot, Admit, AdmitAck, Peek, PeekAns, Remove, RemoveAns, SnapStart, SnapBegun, SnapRead, SnapPart, Store, Stored, Release, Ask, Told, TopAsk, TopIs}
+use Rattle.far_base.specs.declared.packet.Packet.TheVariants.{GetReq, WriteReq, GetFwd, WriteFwd, GetRep, WriteRep, GetAns, WriteAns, Hot, Admit, AdmitAck, Peek, PeekAns, Remove, RemoveAns, SnapStart, SnapBegun, SnapRead, SnapPart, Store, Stored, Release, Ask, Told, TopAsk, TopIs, SnapSame, SnapFrom}
 use Rattle.far_base.specs.PlanView.{PlanView}
 use Rattle.far_base.specs.declared.party.Party.{Party}
 use Rattle.far_base.specs.declared.party.Party.TheVariants.{Client, Switch, Server, Controller}
@@ -51,6 +51,8 @@ subject (Ask round) = OfRound round
 subject (Told round caller total item) = OfRound round
 subject (TopAsk round) = OfRound round
 subject (TopIs round server top) = OfRound round
+subject (SnapSame id slot) = OfSnapshot id
+subject (SnapFrom epoch id base) = OfSnapshot id
 
 abbrev pub is_of_client : ℕ → Subject → Bool
 is_of_client c (OfOperation caller op) = nat_eq caller c
@@ -112,6 +114,8 @@ IsFor config (Ask round) to = IsClientOf config to
 IsFor config (Told round caller total item) to = to ≡ Controller
 IsFor config (TopAsk round) to = IsServerOf config to
 IsFor config (TopIs round server top) to = to ≡ Controller
+IsFor config (SnapSame id slot) to = to ≡ Controller
+IsFor config (SnapFrom epoch id base) to = to ≡ Switch
 
 -- from whom it comes
 abbrev pub IsFrom : Packet → Party → Type 0
@@ -141,6 +145,8 @@ IsFrom (Ask round) from = from ≡ Controller
 IsFrom (Told round caller total item) from = from ≡ Client caller
 IsFrom (TopAsk round) from = from ≡ Controller
 IsFrom (TopIs round server top) from = from ≡ Server server
+IsFrom (SnapSame id slot) from = from ≡ Switch
+IsFrom (SnapFrom epoch id base) from = from ≡ Controller
 
 -- a packet that goes from and to the parties that its kind says
 pub record Travels (config : Config) (from to : Party) (packet : Packet) : Type 0 where

@@ -7,7 +7,7 @@ use Rattle.far_base.specs.declared.packet.Message.{Message}
 use Rattle.far_base.specs.declared.packet.Packet.{Packet}
 use Rattle.far_base.specs.declared.packet.Packet.TheVariants.{GetReq, WriteReq, GetFwd, WriteFwd, GetRep, WriteRep, GetAns, WriteAns, Hot, Admit, AdmitAck, Peek, PeekAns, Remove, RemoveAns, SnapStart, SnapBegun, SnapRead, SnapPart, Store, Stored, Release, Ask, Told, TopAsk, TopIs}
 use Rattle.far_base.specs.declared.plan.Order.{Order}
-use Rattle.far_base.specs.declared.plan.Order.TheVariants.{Admit as AdmitOrder, Evict as EvictOrder, Snap as SnapOrder, Stop as StopOrder}
+use Rattle.far_base.specs.declared.plan.Order.TheVariants.{Admit as AdmitOrder, Evict as EvictOrder, Snap as SnapOrder, Stop as StopOrder, StopAt as StopAtOrder}
 use Rattle.far_model.specs.Controller.{ControllerState, tick}
 use Rattle.far_model.specs.Events.{happens}
 use Rattle.far_model.specs.Parties.{Turn}
@@ -43,6 +43,7 @@ is_lasting_order (Some (AdmitOrder step key)) = true
 is_lasting_order (Some (EvictOrder step key)) = false
 is_lasting_order (Some (SnapOrder step)) = true
 is_lasting_order (Some (StopOrder step)) = false
+is_lasting_order (Some (StopAtOrder kind times)) = false
 
 abbrev pub is_lasting : PlanView → State → Event → Bool
 is_lasting plan s (Send c) = true

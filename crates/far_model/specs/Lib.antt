@@ -14,6 +14,7 @@ pub mod Log
 pub mod Members
 pub mod Parties
 pub mod Pass
+pub mod Passes
 pub mod Past
 pub mod Replies
 pub mod Rounds

@@ -5,10 +5,11 @@ use Rattle.far_base.specs.declared.log.LogEntry.{LogEntry}
 use Rattle.far_base.specs.declared.log.LogEntry.TheVariants.{Numbered, Emitted}
 use Rattle.far_base.specs.declared.packet.Out.{Out}
 use Rattle.far_base.specs.declared.packet.Packet.{Packet}
-use Rattle.far_base.specs.declared.packet.Packet.TheVariants.{GetReq, WriteReq, GetFwd, WriteFwd, GetRep, WriteRep, GetAns, WriteAns, Hot, Admit, AdmitAck, Peek, PeekAns, Remove, RemoveAns, SnapStart, SnapBegun, SnapRead, SnapPart, Store, Stored, Release, Ask, Told, TopAsk, TopIs}
+use Rattle.far_base.specs.declared.packet.Packet.TheVariants.{GetReq, WriteReq, GetFwd, WriteFwd, GetRep, WriteRep, GetAns, WriteAns, Hot, Admit, AdmitAck, Peek, PeekAns, Remove, RemoveAns, SnapStart, SnapBegun, SnapRead, SnapPart, Store, Stored, Release, Ask, Told, TopAsk, TopIs, SnapSame, SnapFrom}
 use Rattle.far_base.specs.declared.party.Party.{Party}
+use Rattle.far_base.specs.declared.record.Record.{Record}
 use Rattle.far_base.specs.declared.party.Party.TheVariants.{Client, Switch, Server, Controller}
-use Rattle.far_model.specs.View.{SlotView, SwitchView, HotCell, HOT_CELLS, slot_at, entry_place, server_of, bind_key, held_record, shown_body, is_taken, empty_slot}
+use Rattle.far_model.specs.View.{SlotView, SwitchView, HotCell, HOT_CELLS, slot_at, entry_place, server_of, bind_key, held_record, shown_body, mark_of, same_mark, taken_at, shown_at, is_taken, empty_slot}
 
 -- what a pass leaves: the view, and at most two packets
 pub record Passed : Type 0 where
@@ -51,19 +52,28 @@ told_hot key v = if grows_hot v.config.hot (hot_cell key v) then sent_to Control
 
 -- ---- the first change of a slot in an era
 
+-- whether the slot holds what the snapshot that parts may refer to has of it: its last part was of that snapshot, and
+-- the mark has not changed
+abbrev pub is_as_before : SwitchView → ℕ → Bool
+is_as_before v i = nat_lt 0 v.base && (nat_eq (taken_at v i) v.base && same_mark (shown_at v i) (mark_of (held_record (slot_at v i))))
+
 -- the part of a slot that leaves: what the slot holds before it changes
+abbrev pub part_packet : SwitchView → ℕ → Packet
+part_packet v i = if is_as_before v i then SnapSame v.snap i else SnapPart v.snap i (held_record (slot_at v i))
+
 abbrev pub part_of : SwitchView → ℕ → Option Out
-part_of v i = sent_to Controller (SnapPart v.snap i (held_record (slot_at v i)))
+part_of v i = sent_to Controller (part_packet v i)
 
 abbrev pub with_slot : SwitchView → ℕ → SlotView → SwitchView
 with_slot v i slot = record v { slots = slice_set v.slots i slot }
 
-abbrev pub with_taken : SwitchView → ℕ → SwitchView
-with_taken v i = record v { taken = slice_set v.taken i v.snap }
+-- the slot's part is taken, and its mark is that of this view
+abbrev pub with_taken : SwitchView → ℕ → Option Record → SwitchView
+with_taken v i view = record v { taken = slice_set v.taken i v.snap; shown = slice_set v.shown i (mark_of view) }
 
 -- the record of slot i is set or taken away: where its part was not taken, it leaves now
 abbrev pub changed_view : SwitchView → ℕ → SlotView → SwitchView
-changed_view v i slot = if is_taken v i then with_slot v i slot else with_taken (with_slot v i slot) i
+changed_view v i slot = if is_taken v i then with_slot v i slot else with_taken (with_slot v i slot) i (held_record (slot_at v i))
 
 abbrev pub part_left : SwitchView → ℕ → Option Out
 part_left v i = if is_taken v i then None else part_of v i
@@ -175,12 +185,12 @@ removes v i tag latest num slot = if may_go tag latest num slot
     else record { view = with_slot v i empty_slot; first = removed_answer i tag true slot; second = None })
     else record { view = v; first = removed_answer i tag false slot; second = None }
 
-abbrev pub starts_snapshot : SwitchView → ℕ → Passed
-starts_snapshot v id = record { view = record v { snap = id }; first = sent_to Controller (SnapBegun id v.counter); second = None }
+abbrev pub starts_snapshot : SwitchView → ℕ → ℕ → Passed
+starts_snapshot v id base = record { view = record v { snap = id; base = base }; first = sent_to Controller (SnapBegun id v.counter); second = None }
 
 abbrev pub reads_part : SwitchView → ℕ → ℕ → Passed
 reads_part v id i = if nat_eq id v.snap && not (is_taken v i)
-    then record { view = with_taken v i; first = part_of v i; second = None }
+    then record { view = with_taken v i (held_record (slot_at v i)); first = part_of v i; second = None }
     else dropped v
 
 -- ---- the table
@@ -195,7 +205,8 @@ pass v (WriteRep caller op key num body) =
 pass v (Admit epoch i key tag) = if is_slot_there v epoch i then admits v i key tag else dropped v
 pass v (Peek epoch i tag) = if is_slot_there v epoch i then peeks v i tag (slot_at v i) else dropped v
 pass v (Remove epoch i tag latest num) = if is_slot_there v epoch i then removes v i tag latest num (slot_at v i) else dropped v
-pass v (SnapStart epoch id) = if nat_eq epoch v.epoch then starts_snapshot v id else dropped v
+pass v (SnapStart epoch id) = if nat_eq epoch v.epoch then starts_snapshot v id 0 else dropped v
+pass v (SnapFrom epoch id base) = if nat_eq epoch v.epoch then starts_snapshot v id base else dropped v
 pass v (SnapRead epoch id i) = if is_slot_there v epoch i then reads_part v id i else dropped v
 pass v _ = dropped v
 

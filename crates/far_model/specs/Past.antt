@@ -7,7 +7,7 @@ use Rattle.far_base.specs.declared.kept.KeptItem.{KeptItem}
 use Rattle.far_base.specs.declared.packet.Message.{Message}
 use Rattle.far_base.specs.declared.packet.Out.{Out}
 use Rattle.far_base.specs.declared.packet.Packet.{Packet}
-use Rattle.far_base.specs.declared.packet.Packet.TheVariants.{GetReq, WriteReq, GetFwd, WriteFwd, GetRep, WriteRep, GetAns, WriteAns, Hot, Admit, AdmitAck, Peek, PeekAns, Remove, RemoveAns, SnapStart, SnapBegun, SnapRead, SnapPart, Store, Stored, Release, Ask, Told, TopAsk, TopIs}
+use Rattle.far_base.specs.declared.packet.Packet.TheVariants.{GetReq, WriteReq, GetFwd, WriteFwd, GetRep, WriteRep, GetAns, WriteAns, Hot, Admit, AdmitAck, Peek, PeekAns, Remove, RemoveAns, SnapStart, SnapBegun, SnapRead, SnapPart, Store, Stored, Release, Ask, Told, TopAsk, TopIs, SnapFrom}
 use Rattle.far_base.specs.declared.party.Party.{Party}
 use Rattle.far_base.specs.declared.party.Party.TheVariants.{Client, Switch, Server, Controller}
 use Rattle.far_base.specs.declared.record.Record.{Record}
@@ -42,9 +42,10 @@ no_past = record { starts = []; drawn = []; recoveries = [] }
 abbrev pub start_of : SwitchView → ℕ → SnapshotStart
 start_of v id = record { id = id; views = map held_record v.slots; counter = v.counter }
 
--- the start that a delivery makes: of a start of a snapshot in the switch's epoch
+-- the start that a delivery makes: of a start of a snapshot in the switch's epoch, by difference or not
 abbrev pub starts_by : SwitchView → Party → Packet → List SnapshotStart
 starts_by v Switch (SnapStart epoch id) = if nat_eq epoch v.epoch then start_of v id ∷ [] else []
+starts_by v Switch (SnapFrom epoch id base) = if nat_eq epoch v.epoch then start_of v id ∷ [] else []
 starts_by v _ packet = []
 
 abbrev pub starts_with : SwitchView → Option Message → List SnapshotStart

@@ -1,5 +1,5 @@
 -- A snapshot while its parts are gathered, and a completed one.
-use Rattle.std.specs.Prelude.{◌≡◌, ℕ, suc, Bool, true, false, ◌&&◌, nat_eq, nat_lt, if◌then◌else◌, List, [], ◌∷◌, ◌++◌, map, replicate, slice_index_or, is_some, Option, None, Some}
+use Rattle.std.specs.Prelude.{◌≡◌, ℕ, suc, ◌+◌, Bool, true, false, ◌&&◌, nat_eq, nat_lt, if◌then◌else◌, List, [], ◌∷◌, ◌++◌, map, replicate, slice_index_or, slice_set, is_some, Option, None, Some}
 use Rattle.std.specs.List.{list_all}
 use Rattle.far_base.specs.declared.log.LogEntry.{LogEntry}
 use Rattle.far_base.specs.declared.log.LogEntry.TheVariants.{SnapItem}
@@ -9,11 +9,13 @@ use Rattle.far_base.specs.declared.party.Party.TheVariants.{Client, Switch}
 use Rattle.far_base.specs.declared.record.Record.{Record}
 use Rattle.far_model.specs.Parties.{to_party}
 
--- per slot the part that has come: what the slot held when the snapshot began
+-- per slot the part that has come: what the slot held when the snapshot began; `sames` of them are those of the last
+-- completed snapshot
 pub record Job : Type 0 where
   pub id : ℕ
   pub begun : Option ℕ
   pub parts : List (Option (Option Record))
+  pub sames : ℕ
 
 -- a completed snapshot: the number at which it began, and per slot what the slot held then
 pub record SnapshotView : Type 0 where
@@ -25,7 +27,7 @@ abbrev pub no_snapshot : SnapshotView
 no_snapshot = record { id = 0; point = 0; views = [] }
 
 abbrev pub new_job : ℕ → ℕ → Job
-new_job id slots = record { id = id; begun = None; parts = replicate slots None }
+new_job id slots = record { id = id; begun = None; parts = replicate slots None; sames = 0 }
 
 -- whether a slot's part has come
 abbrev pub has_come : Option (Option Record) → Bool
@@ -37,6 +39,14 @@ has_begun job = is_some job.begun
 -- whether slot i is there and has a part
 abbrev pub has_part : Job → ℕ → Bool
 has_part job i = has_come (slice_index_or job.parts i None)
+
+-- the part of slot i has come
+abbrev pub with_part : Job → ℕ → Option Record → Job
+with_part job i view = record job { parts = slice_set job.parts i (Some view) }
+
+-- the part of slot i is the one of the last completed snapshot
+abbrev pub with_same : Job → ℕ → Option Record → Job
+with_same job i view = record (with_part job i view) { sames = job.sames + 1 }
 
 -- begun, and every part there
 abbrev pub is_whole : Job → Bool

@@ -8,9 +8,11 @@ use Rattle.far_base.specs.declared.plan.OpLine.{OpLine}
 use Rattle.far_base.specs.declared.record.Record.{Record}
 use Rattle.far_model.specs.Clients.{ClientState, opening_client}
 use Rattle.far_model.specs.Controller.{ControllerState, opening_controller}
+use Rattle.far_model.specs.Passes.{no_passes}
 use Rattle.far_model.specs.View.{SwitchView, opening_view}
 
--- the parties, the messages on their way (oldest first), the number of orders done, the number of steps, and the log
+-- the parties, the messages on their way (oldest first), how many packets of each kind have come to the running switch,
+-- the number of orders done, the number of steps, and the log
 pub record State : Type 0 where
   pub switch : SwitchView
   pub running : Bool
@@ -18,6 +20,7 @@ pub record State : Type 0 where
   pub servers : List (List Record)
   pub controller : ControllerState
   pub bag : List Message
+  pub passes : List ℕ
   pub done : ℕ
   pub steps : ℕ
   pub log : List LogLine
@@ -34,6 +37,7 @@ opening plan = record {
   servers = replicate plan.config.servers [];
   controller = opening_controller plan.config;
   bag = [];
+  passes = no_passes;
   done = 0;
   steps = 0;
   log = [];

@@ -25,15 +25,33 @@ pub record HotCell : Type 0 where
 abbrev pub HOT_CELLS : ℕ
 HOT_CELLS = 256
 
--- the switch: per slot the key that is bound to it, the slot, and the era in which its part of a snapshot was taken
+-- what is remembered of a record: its key and number
+pub record Mark : Type 0 where
+  pub key : List ℕ
+  pub num : ℕ
+
+abbrev pub mark_of : Option Record → Option Mark
+mark_of None = None
+mark_of (Some r) = Some (record { key = r.key; num = r.num })
+
+abbrev pub same_mark : Option Mark → Option Mark → Bool
+same_mark None None = true
+same_mark None (Some b) = false
+same_mark (Some a) None = false
+same_mark (Some a) (Some b) = same_key a.key b.key && nat_eq a.num b.num
+
+-- the switch: per slot the key that is bound to it, the slot, the era in which its part of a snapshot was taken, and
+-- the mark of what it held when that snapshot began; `base` is the snapshot that parts may refer to, or 0
 pub record SwitchView : Type 0 where
   pub config : Config
   pub epoch : ℕ
   pub counter : ℕ
   pub snap : ℕ
+  pub base : ℕ
   pub bound : List (Option (List ℕ))
   pub slots : List SlotView
   pub taken : List ℕ
+  pub shown : List (Option Mark)
   pub hot : List HotCell
 
 -- a switch with no memory but these
@@ -43,9 +61,11 @@ opening_view config epoch counter = record {
   epoch = epoch;
   counter = counter;
   snap = 0;
+  base = 0;
   bound = replicate config.slots None;
   slots = replicate config.slots empty_slot;
   taken = replicate config.slots 0;
+  shown = replicate config.slots None;
   hot = replicate HOT_CELLS (record { era = 0; count = 0 });
 }
 
@@ -100,6 +120,12 @@ held_record slot = if slot.latest then record_of slot.key slot.num slot.body els
 abbrev pub shown_body : SlotView → Option (List ℕ)
 shown_body slot = if slot.latest then slot.body else None
 
+abbrev pub taken_at : SwitchView → ℕ → ℕ
+taken_at v i = slice_index_or v.taken i 0
+
+abbrev pub shown_at : SwitchView → ℕ → Option Mark
+shown_at v i = slice_index_or v.shown i None
+
 -- whether the slot's part of the present snapshot was taken; with no snapshot all are
 abbrev pub is_taken : SwitchView → ℕ → Bool
-is_taken v i = nat_eq (slice_index_or v.taken i 0) v.snap
+is_taken v i = nat_eq (taken_at v i) v.snap

@@ -5,11 +5,11 @@ use Rattle.far_base.specs.Limits.{is_slot_order, is_snap, is_stop}
 use Rattle.far_base.specs.PlanView.{PlanView}
 use Rattle.far_base.specs.declared.packet.Message.{Message}
 use Rattle.far_base.specs.declared.packet.Packet.{Packet}
-use Rattle.far_base.specs.declared.packet.Packet.TheVariants.{GetReq, WriteReq, GetFwd, WriteFwd, GetRep, WriteRep, GetAns, WriteAns, Hot, Admit, AdmitAck, Peek, PeekAns, Remove, RemoveAns, SnapStart, SnapBegun, SnapRead, SnapPart, Store, Stored, Release, Ask, Told, TopAsk, TopIs}
+use Rattle.far_base.specs.declared.packet.Packet.TheVariants.{GetReq, WriteReq, GetFwd, WriteFwd, GetRep, WriteRep, GetAns, WriteAns, Hot, Admit, AdmitAck, Peek, PeekAns, Remove, RemoveAns, SnapStart, SnapBegun, SnapRead, SnapPart, Store, Stored, Release, Ask, Told, TopAsk, TopIs, SnapSame, SnapFrom}
 use Rattle.far_base.specs.declared.party.Party.{Party}
 use Rattle.far_base.specs.declared.party.Party.TheVariants.{Client, Switch, Server, Controller}
 use Rattle.far_base.specs.declared.plan.Order.{Order}
-use Rattle.far_base.specs.declared.plan.Order.TheVariants.{Admit as AdmitOrder, Evict as EvictOrder, Snap as SnapOrder, Stop as StopOrder}
+use Rattle.far_base.specs.declared.plan.Order.TheVariants.{Admit as AdmitOrder, Evict as EvictOrder, Snap as SnapOrder, Stop as StopOrder, StopAt as StopAtOrder}
 use Rattle.far_base.specs.declared.record.Record.{Record}
 use Rattle.far_base.specs.declared.slot_state.Due.TheVariants.{Peeked, Removed}
 use Rattle.far_model.specs.Clients.{ClientState, script}
@@ -36,6 +36,7 @@ order_weight plan (AdmitOrder step key) = 19
 order_weight plan (EvictOrder step key) = 15
 order_weight plan (SnapOrder step) = 2 * plan.config.slots + plan.config.clients + 3
 order_weight plan (StopOrder step) = stopped_weight plan + 1
+order_weight plan (StopAtOrder kind times) = stopped_weight plan + 1
 
 abbrev pub is_peeking : ℕ → ℕ → Option Eviction → Bool
 is_peeking i tag None = false
@@ -88,6 +89,8 @@ packet_weight plan c to (Ask round) = asked_weight plan to
 packet_weight plan c to (Told round caller total item) = told_weight item
 packet_weight plan c to (TopAsk round) = 2
 packet_weight plan c to (TopIs round server top) = 1
+packet_weight plan c to (SnapSame id i) = 1
+packet_weight plan c to (SnapFrom epoch id base) = 2 * plan.config.slots + 2
 
 abbrev pub message_weight : PlanView → ControllerState → Message → ℕ
 message_weight plan c m = packet_weight plan c m.to m.packet

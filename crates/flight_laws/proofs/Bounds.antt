@@ -13,7 +13,7 @@ use Rattle.far_base.specs.declared.party.Party.{Party}
 use Rattle.far_base.specs.declared.plan.Config.{Config}
 use Rattle.far_base.specs.declared.plan.OpLine.{OpLine}
 use Rattle.far_base.specs.declared.plan.Order.{Order}
-use Rattle.far_base.specs.declared.plan.Order.TheVariants.{Admit as AdmitOrder, Evict as EvictOrder, Snap as SnapOrder, Stop as StopOrder}
+use Rattle.far_base.specs.declared.plan.Order.TheVariants.{Admit as AdmitOrder, Evict as EvictOrder, Snap as SnapOrder, Stop as StopOrder, StopAt as StopAtOrder}
 use Rattle.far_model.specs.Clients.{opening_client, script_from}
 use Rattle.far_model.specs.Flights.{OfOperation, OneFlightPerOperation, flights_of, is_of_client, open_count, subject}
 use Rattle.far_model.specs.Members.{Among}
@@ -27,7 +27,7 @@ use Rattle.flight_laws.proofs.Working.{untaken_opening}
 -- ---- scripts
 
 -- the lengths of the scripts of so many clients, from client n on
-scripts : ℕ → List OpLine → ℕ → ℕ → ℕ
+unfoldable pub scripts : ℕ → List OpLine → ℕ → ℕ → ℕ
 scripts op ops n zero = 0
 scripts op ops n (suc more) = length (script_from op ops n) + scripts op ops (suc n) more
 
@@ -73,7 +73,7 @@ unfolding scripts
 no_scripts op n zero = refl
 no_scripts op n (suc more) = omega (arith, no_scripts op (suc n) more)
 
-scripts_most : (op : ℕ) (ops : List OpLine) (n more : ℕ) → scripts op ops n more ≤ length ops
+pub scripts_most : (op : ℕ) (ops : List OpLine) (n more : ℕ) → scripts op ops n more ≤ length ops
 scripts_most op [] n more = omega (arith, no_scripts op n more)
 scripts_most op (line ∷ lines) n more = omega (arith, scripts_longer op line lines n more, one_hit line.client n more, scripts_most (suc op) lines n more)
 
@@ -118,6 +118,12 @@ orders_most plan m (SnapOrder step ∷ orders) le =
     omega (arith, orders_most plan m orders le, sum_by-cons (order_weight plan) o orders, slot, snap, stop, le)
 orders_most plan m (StopOrder step ∷ orders) le =
     let o : Order = StopOrder step in
+    let slot : count_by is_slot_order (o ∷ orders) ≡ 0 + count_by is_slot_order orders = sum_by-cons (λ x. cond {A = ℕ} (is_slot_order x) 1 0) o orders in
+    let snap : m * count_by is_snap (o ∷ orders) ≡ m * 0 + m * count_by is_snap orders = times_cons m is_snap o orders in
+    let stop : m * count_by is_stop (o ∷ orders) ≡ m * 1 + m * count_by is_stop orders = times_cons m is_stop o orders in
+    omega (arith, orders_most plan m orders le, sum_by-cons (order_weight plan) o orders, slot, snap, stop, le)
+orders_most plan m (StopAtOrder kind times ∷ orders) le =
+    let o : Order = StopAtOrder kind times in
     let slot : count_by is_slot_order (o ∷ orders) ≡ 0 + count_by is_slot_order orders = sum_by-cons (λ x. cond {A = ℕ} (is_slot_order x) 1 0) o orders in
     let snap : m * count_by is_snap (o ∷ orders) ≡ m * 0 + m * count_by is_snap orders = times_cons m is_snap o orders in
     let stop : m * count_by is_stop (o ∷ orders) ≡ m * 1 + m * count_by is_stop orders = times_cons m is_stop o orders in

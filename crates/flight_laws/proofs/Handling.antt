@@ -9,12 +9,12 @@ use Rattle.far_base.specs.declared.event.Event.{Event}
 use Rattle.far_base.specs.declared.event.Event.TheVariants.{Send, Deliver, Tick, Recover, Restart, Order as OrderOf}
 use Rattle.far_base.specs.declared.packet.Message.{Message}
 use Rattle.far_base.specs.declared.packet.Packet.{Packet}
-use Rattle.far_base.specs.declared.packet.Packet.TheVariants.{GetReq, WriteReq, GetFwd, WriteFwd, GetRep, WriteRep, GetAns, WriteAns, Hot, Admit, AdmitAck, Peek, PeekAns, Remove, RemoveAns, SnapStart, SnapBegun, SnapRead, SnapPart, Store, Stored, Release, Ask, Told, TopAsk, TopIs}
+use Rattle.far_base.specs.declared.packet.Packet.TheVariants.{GetReq, WriteReq, GetFwd, WriteFwd, GetRep, WriteRep, GetAns, WriteAns, Hot, Admit, AdmitAck, Peek, PeekAns, Remove, RemoveAns, SnapStart, SnapBegun, SnapRead, SnapPart, Store, Stored, Release, Ask, Told, TopAsk, TopIs, SnapSame, SnapFrom}
 use Rattle.far_base.specs.declared.party.Party.{Party}
 use Rattle.far_base.specs.declared.party.Party.TheVariants.{Client, Switch, Server, Controller}
 use Rattle.far_base.specs.declared.plan.OpLine.{OpLine}
 use Rattle.far_base.specs.declared.plan.Order.{Order}
-use Rattle.far_base.specs.declared.plan.Order.TheVariants.{Admit as AdmitOrder, Evict as EvictOrder, Snap as SnapOrder, Stop as StopOrder}
+use Rattle.far_base.specs.declared.plan.Order.TheVariants.{Admit as AdmitOrder, Evict as EvictOrder, Snap as SnapOrder, Stop as StopOrder, StopAt as StopAtOrder}
 use Rattle.far_base.specs.declared.record.Record.{Record}
 use Rattle.far_model.specs.Clients.{ClientState, client_takes, closed, preserves, answered_record, line_of, request}
 use Rattle.far_model.specs.Controller.{ControllerState, controller_takes, evict_key, ready, start_recovery, start_snapshot, tick, wanted}
@@ -131,6 +131,7 @@ module _ (plan : PlanView) (k : Keeping) (s : State) (h : IsInFlight plan s) (re
   handles (Peek epoch i tag) to rests goes ans = moved to (Peek epoch i tag) Switch goes (at_switch (Peek epoch i tag) rests refl)
   handles (Remove epoch i tag latest num) to rests goes ans = moved to (Remove epoch i tag latest num) Switch goes (at_switch (Remove epoch i tag latest num) rests refl)
   handles (SnapStart epoch id) to rests goes ans = moved to (SnapStart epoch id) Switch goes (at_switch (SnapStart epoch id) rests refl)
+  handles (SnapFrom epoch id base) to rests goes ans = moved to (SnapFrom epoch id base) Switch goes (at_switch (SnapFrom epoch id base) rests refl)
   handles (SnapRead epoch id i) to rests goes ans = moved to (SnapRead epoch id i) Switch goes (at_switch (SnapRead epoch id i) rests refl)
   handles (GetFwd caller op key tag) to rests goes ans =
       let r = subst (λ w. RepliesAt w (GetFwd caller op key tag) k.reply) goes ans in
@@ -165,6 +166,7 @@ module _ (plan : PlanView) (k : Keeping) (s : State) (h : IsInFlight plan s) (re
   handles (SnapPart id i view) to rests goes ans = moved to (SnapPart id i view) Controller goes (at_controller (subject (SnapPart id i view)) (controller_takes plan.config s.controller (SnapPart id i view)) rests refl (takes_rules plan.config s.controller (SnapPart id i view)))
   handles (Stored job) to rests goes ans = moved to (Stored job) Controller goes (at_controller (subject (Stored job)) (controller_takes plan.config s.controller (Stored job)) rests refl (takes_rules plan.config s.controller (Stored job)))
   handles (Told round caller total item) to rests goes ans = moved to (Told round caller total item) Controller goes (at_controller (subject (Told round caller total item)) (controller_takes plan.config s.controller (Told round caller total item)) rests refl (takes_rules plan.config s.controller (Told round caller total item)))
+  handles (SnapSame id i) to rests goes ans = moved to (SnapSame id i) Controller goes (at_controller (subject (SnapSame id i)) (controller_takes plan.config s.controller (SnapSame id i)) rests refl (takes_rules plan.config s.controller (SnapSame id i)))
   handles (TopIs round server top) to rests goes ans = moved to (TopIs round server top) Controller goes (at_controller (subject (TopIs round server top)) (controller_takes plan.config s.controller (TopIs round server top)) rests refl (takes_rules plan.config s.controller (TopIs round server top)))
 
 -- ---- events
@@ -224,6 +226,7 @@ order_done plan k s (Some (AdmitOrder step key)) h = rules_on plan k s (idle (wa
 order_done plan k s (Some (EvictOrder step key)) h = rules_on plan k s (evict_key key s.controller) h (evict_rules plan.config key s.controller)
 order_done plan k s (Some (SnapOrder step)) h = rules_on plan k s (start_snapshot s.controller) h (snapshot_rules plan.config s.controller)
 order_done plan k s (Some (StopOrder step)) h = same_flights plan s (does_order plan s (Some (StopOrder step))) h refl refl refl refl
+order_done plan k s (Some (StopAtOrder kind times)) h = same_flights plan s (does_order plan s (Some (StopAtOrder kind times))) h refl refl refl refl
 
 pub flight_step : (plan : PlanView) (k : Keeping) (s : State) (e : Event) → IsInFlight plan s → KeepersAnswer s e k → is_enabled plan s e ≡ true → IsInFlight plan (happens_with plan k s e)
 flight_step plan k s (Send c) h ans able = flight_sent plan k s c h able

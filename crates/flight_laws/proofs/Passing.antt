@@ -3,13 +3,13 @@ use Rattle.std.proofs.Common.{◌≡◌, ℕ, Bool, true, false, cond, not, ◌&
 use Rattle.std.specs.Prelude.{Option, None, Some}
 use Rattle.far_base.specs.declared.packet.Out.{Out}
 use Rattle.far_base.specs.declared.packet.Packet.{Packet}
-use Rattle.far_base.specs.declared.packet.Packet.TheVariants.{GetReq, WriteReq, GetFwd, WriteFwd, GetRep, WriteRep, GetAns, WriteAns, Hot, Admit, AdmitAck, Peek, PeekAns, Remove, RemoveAns, SnapStart, SnapBegun, SnapRead, SnapPart, Store, Stored, Release, Ask, Told, TopAsk, TopIs}
+use Rattle.far_base.specs.declared.packet.Packet.TheVariants.{GetReq, WriteReq, GetFwd, WriteFwd, GetRep, WriteRep, GetAns, WriteAns, Hot, Admit, AdmitAck, Peek, PeekAns, Remove, RemoveAns, SnapStart, SnapBegun, SnapRead, SnapPart, Store, Stored, Release, Ask, Told, TopAsk, TopIs, SnapSame, SnapFrom}
 use Rattle.far_base.specs.declared.party.Party.TheVariants.{Client, Switch, Server, Controller}
 use Rattle.far_base.specs.declared.plan.Config.{Config}
 use Rattle.far_model.specs.Flights.{Subject, OfOperation, subject, is_operation, IsFor}
 use Rattle.far_model.specs.Parties.{messages_from}
-use Rattle.far_model.specs.Pass.{Passed, pass, passed_out, dropped, sent_to, touched, told_hot, grows_hot, hot_cell, part_of, part_left, with_slot, with_taken, changed_view, changes, read_passes, absorbing, write_passes, numbered, takes_reply, raised, reply_passes, is_slot_there, admits, admitted, is_under, peeks, may_go, removed_answer, removes, starts_snapshot, reads_part}
-use Rattle.far_model.specs.View.{SlotView, SwitchView, slot_at, entry_place, server_of, is_taken, empty_slot, shown_body, bind_key}
+use Rattle.far_model.specs.Pass.{Passed, pass, passed_out, dropped, sent_to, touched, told_hot, grows_hot, hot_cell, part_of, part_left, is_as_before, with_slot, with_taken, changed_view, changes, read_passes, absorbing, write_passes, numbered, takes_reply, raised, reply_passes, is_slot_there, admits, admitted, is_under, peeks, may_go, removed_answer, removes, starts_snapshot, reads_part}
+use Rattle.far_model.specs.View.{SlotView, SwitchView, slot_at, entry_place, server_of, is_taken, held_record, empty_slot, shown_body, bind_key}
 use Rattle.flight_laws.proofs.Lists.{by_test}
 use Rattle.flight_laws.proofs.Sends.{Adds, IsControl, IsCarried, carried_adds, control_adds}
 
@@ -37,11 +37,14 @@ answers v sub view (Some o) (Some x) e plain h k = record { config = e; adds = c
 hot_control : (key : List ℕ) (v : SwitchView) → IsControlOrNone v.config (told_hot key v)
 hot_control key v = by_test (IsControlOrNone v.config) (grows_hot v.config.hot (hot_cell key v)) (sent_to Controller (Hot key)) None (record { apart = refl; travels = record { source = refl; target = refl } }) tt
 
+own_part_control : (v : SwitchView) (i : ℕ) → IsControlOrNone v.config (part_of v i)
+own_part_control v i = by_test (λ p. IsControlOrNone v.config (sent_to Controller p)) (is_as_before v i) (SnapSame v.snap i) (SnapPart v.snap i (held_record (slot_at v i))) (record { apart = refl; travels = record { source = refl; target = refl } }) (record { apart = refl; travels = record { source = refl; target = refl } })
+
 part_control : (v : SwitchView) (i : ℕ) → IsControlOrNone v.config (part_left v i)
-part_control v i = by_test (IsControlOrNone v.config) (is_taken v i) None (part_of v i) tt (record { apart = refl; travels = record { source = refl; target = refl } })
+part_control v i = by_test (IsControlOrNone v.config) (is_taken v i) None (part_of v i) tt (own_part_control v i)
 
 changed_config : (v : SwitchView) (i : ℕ) (slot : SlotView) → (changed_view v i slot).config ≡ v.config
-changed_config v i slot = by_test (λ (w : SwitchView). w.config ≡ v.config) (is_taken v i) (with_slot v i slot) (with_taken (with_slot v i slot) i) refl refl
+changed_config v i slot = by_test (λ (w : SwitchView). w.config ≡ v.config) (is_taken v i) (with_slot v i slot) (with_taken (with_slot v i slot) i (held_record (slot_at v i))) refl refl
 
 changes_on : (v : SwitchView) (sub : Subject) (i : ℕ) (slot : SlotView) (o : Out) → IsCarried v.config Switch sub o → PassSends v sub (changes v i slot (Some o))
 changes_on v sub i slot o carried = goes_on v sub (changed_view v i slot) o (part_left v i) (changed_config v i slot) carried (part_control v i)
@@ -86,12 +89,12 @@ remove_sends v sub i tag latest num slot plain = by_test (PassSends v sub) (may_
     (answers v sub (with_slot v i empty_slot) (removed_answer i tag true slot) None refl plain (removed_control v.config i tag true slot) tt))
     (answers v sub v (removed_answer i tag false slot) None refl plain (removed_control v.config i tag false slot) tt)
 
-start_sends : (v : SwitchView) (sub : Subject) (id : ℕ) → is_operation sub ≡ false → PassSends v sub (starts_snapshot v id)
-start_sends v sub id plain = answers v sub (record v { snap = id }) (sent_to Controller (SnapBegun id v.counter)) None refl plain (record { apart = refl; travels = record { source = refl; target = refl } }) tt
+start_sends : (v : SwitchView) (sub : Subject) (id base : ℕ) → is_operation sub ≡ false → PassSends v sub (starts_snapshot v id base)
+start_sends v sub id base plain = answers v sub (record v { snap = id; base = base }) (sent_to Controller (SnapBegun id v.counter)) None refl plain (record { apart = refl; travels = record { source = refl; target = refl } }) tt
 
 part_sends : (v : SwitchView) (sub : Subject) (id i : ℕ) → is_operation sub ≡ false → PassSends v sub (reads_part v id i)
 part_sends v sub id i plain = by_test (PassSends v sub) (nat_eq id v.snap && not (is_taken v i)) _ (dropped v)
-    (answers v sub (with_taken v i) (part_of v i) None refl plain (record { apart = refl; travels = record { source = refl; target = refl } }) tt) (drop_sends v sub plain)
+    (answers v sub (with_taken v i (held_record (slot_at v i))) (part_of v i) None refl plain (own_part_control v i) tt) (drop_sends v sub plain)
 
 there_or_dropped : (v : SwitchView) (sub : Subject) (test : Bool) (p : Passed) → is_operation sub ≡ false → PassSends v sub p → PassSends v sub (cond test p (dropped v))
 there_or_dropped v sub test p plain h = by_test (PassSends v sub) test p (dropped v) h (drop_sends v sub plain)
@@ -108,7 +111,8 @@ pass_sends v (WriteRep caller op key num body) h = reply_sends v (OfOperation ca
 pass_sends v (Admit epoch i key tag) h = there_or_dropped v (subject (Admit epoch i key tag)) (is_slot_there v epoch i) (admits v i key tag) refl (admit_sends v (subject (Admit epoch i key tag)) i key tag refl)
 pass_sends v (Peek epoch i tag) h = there_or_dropped v (subject (Peek epoch i tag)) (is_slot_there v epoch i) (peeks v i tag (slot_at v i)) refl (peek_sends v (subject (Peek epoch i tag)) i tag (slot_at v i) refl)
 pass_sends v (Remove epoch i tag latest num) h = there_or_dropped v (subject (Remove epoch i tag latest num)) (is_slot_there v epoch i) (removes v i tag latest num (slot_at v i)) refl (remove_sends v (subject (Remove epoch i tag latest num)) i tag latest num (slot_at v i) refl)
-pass_sends v (SnapStart epoch id) h = there_or_dropped v (subject (SnapStart epoch id)) (nat_eq epoch v.epoch) (starts_snapshot v id) refl (start_sends v (subject (SnapStart epoch id)) id refl)
+pass_sends v (SnapStart epoch id) h = there_or_dropped v (subject (SnapStart epoch id)) (nat_eq epoch v.epoch) (starts_snapshot v id 0) refl (start_sends v (subject (SnapStart epoch id)) id 0 refl)
+pass_sends v (SnapFrom epoch id base) h = there_or_dropped v (subject (SnapFrom epoch id base)) (nat_eq epoch v.epoch) (starts_snapshot v id base) refl (start_sends v (subject (SnapFrom epoch id base)) id base refl)
 pass_sends v (SnapRead epoch id i) h = there_or_dropped v (subject (SnapRead epoch id i)) (is_slot_there v epoch i) (reads_part v id i) refl (part_sends v (subject (SnapRead epoch id i)) id i refl)
 pass_sends v (Release point) h = drop_sends v (subject (Release point)) refl
 pass_sends v (Ask round) h = drop_sends v (subject (Ask round)) refl
@@ -119,6 +123,7 @@ pass_sends v (PeekAns i tag latest num body) h = drop_sends v (subject (PeekAns 
 pass_sends v (RemoveAns i tag done latest num body) h = drop_sends v (subject (RemoveAns i tag done latest num body)) refl
 pass_sends v (SnapBegun id point) h = drop_sends v (subject (SnapBegun id point)) refl
 pass_sends v (SnapPart id i view) h = drop_sends v (subject (SnapPart id i view)) refl
+pass_sends v (SnapSame id i) h = drop_sends v (subject (SnapSame id i)) refl
 pass_sends v (Store job item) h = drop_sends v (subject (Store job item)) refl
 pass_sends v (Stored job) h = drop_sends v (subject (Stored job)) refl
 pass_sends v (Told round caller total item) h = drop_sends v (subject (Told round caller total item)) refl

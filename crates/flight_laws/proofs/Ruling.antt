@@ -1,20 +1,20 @@
 -- What the controller and the clients send: nothing of an operation.
 use Rattle.std.proofs.Common.{◌≡◌, ℕ, zero, suc, ◌+◌, ◌-◌, ◌≤◌, ◌<◌, Bool, true, false, not, ◌&&◌, nat_eq, nat_le, nat_lt, List, [], ◌∷◌, ◌++◌, length, refl, subst, arith}
-use Rattle.std.specs.Prelude.{Option, None, Some, is_some, slice_index_or, slice_set}
+use Rattle.std.specs.Prelude.{slice_get, Option, None, Some, is_some, slice_index_or, slice_set}
 use Rattle.far_base.specs.declared.packet.Out.{Out}
 use Rattle.far_base.specs.declared.packet.Packet.{Packet}
-use Rattle.far_base.specs.declared.packet.Packet.TheVariants.{Hot, AdmitAck, PeekAns, Remove, RemoveAns, SnapBegun, SnapRead, SnapPart, Stored, Release, Ask, Told, TopAsk, TopIs}
+use Rattle.far_base.specs.declared.packet.Packet.TheVariants.{Hot, AdmitAck, PeekAns, Remove, RemoveAns, SnapBegun, SnapRead, SnapPart, Stored, Release, Ask, Told, TopAsk, TopIs, SnapStart, SnapSame, SnapFrom}
 use Rattle.far_base.specs.declared.party.Party.TheVariants.{Client, Switch, Server, Controller}
 use Rattle.far_base.specs.declared.plan.Config.{Config}
 use Rattle.far_base.specs.declared.record.Record.{Record}
 use Rattle.far_base.specs.declared.slot_state.Due.TheVariants.{Peeked, Removed}
 use Rattle.far_model.specs.Clients.{tells, tells_each}
-use Rattle.far_model.specs.Controller.{ControllerState, to_clients, to_servers, store_of, first_want_dropped, admits_want, evicts, makes_room, tick, tick_room, tick_free, tick_want, tick_wants, evict_held, evict_key, acknowledged, evicts_on, peek_answered, removal_answered, start_snapshot, completes, job_turn, snapshot_begun, part_came, stores_of, snapshot_stores, start_recovery, store_outs, round_turn, told_round, client_told, round_stored, store_answered, top_told, controller_takes, wanted}
+use Rattle.far_model.specs.Controller.{ControllerState, to_clients, to_servers, store_of, first_want_dropped, admits_want, evicts, makes_room, tick, tick_room, tick_free, tick_want, tick_wants, evict_held, evict_key, acknowledged, evicts_on, peek_answered, removal_answered, start_snapshot, completes, job_turn, snapshot_begun, part_came, same_part, same_came, is_last_present, stores_of, snapshot_stores, start_recovery, store_outs, round_turn, told_round, client_told, round_stored, store_answered, top_told, controller_takes, wanted}
 use Rattle.far_model.specs.Evictions.{Eviction, Send, Store as StoreNext, Kept, is_free, has_key, holds_key, is_admitting, first_place, state_at, victim, after_peek, after_removal, waits_for, waits_job, TRIES, shown_item, hand_after}
 use Rattle.far_model.specs.Members.{Each}
 use Rattle.far_model.specs.Parties.{Turn, idle, to_party}
 use Rattle.far_model.specs.Rounds.{Round, asks_tops, has_told, telling_at, has_top}
-use Rattle.far_model.specs.Snapshots.{Job, has_begun, has_come, has_part, is_whole, completed, part_reads}
+use Rattle.far_model.specs.Snapshots.{Job, has_begun, has_come, has_part, is_whole, with_same, completed, part_reads}
 use Rattle.flight_laws.proofs.Lists.{by_test}
 use Rattle.flight_laws.proofs.Sends.{IsControl}
 
@@ -122,13 +122,13 @@ module _ (config : Config) where
   -- ---- snapshots
 
   pub snapshot_rules : (c : ControllerState) → Rules config (start_snapshot c)
-  snapshot_rules c = record { out = (record { apart = refl; travels = record { source = refl; target = refl } }, tt) }
+  snapshot_rules c = record { out = (by_test (λ p. IsControl config Controller (to_party Switch p)) (is_last_present c) (SnapFrom c.epoch c.next_id c.last.id) (SnapStart c.epoch c.next_id) (record { apart = refl; travels = record { source = refl; target = refl } }) (record { apart = refl; travels = record { source = refl; target = refl } }), tt) }
 
   release_control : (point c : ℕ) → c < config.clients → IsControl config Controller (to_party (Client c) (Release point))
   release_control point c h = record { apart = refl; travels = record { source = refl; target = record { client = c; within = h; is = refl } } }
 
   job_rules : (c : ControllerState) (job : Job) (out : List Out) → Each (IsControl config Controller) out → Rules config (job_turn config c job out)
-  job_rules c job out h = by_test (Rules config) (is_whole job) (completes config c (completed job)) _
+  job_rules c job out h = by_test (Rules config) (is_whole job) (completes config c (completed job) job.sames) _
       (record { out = clients_told 0 config.clients (Release (completed job).point) (release_control (completed job).point) (omega arith) }) (record { out = h })
 
   begun_rules : (c : ControllerState) (id point : ℕ) (o : Option Job) → Rules config (snapshot_begun config c id point o)
@@ -139,6 +139,14 @@ module _ (config : Config) where
   part_rules : (c : ControllerState) (id i : ℕ) (view : Option Record) (o : Option Job) → Rules config (part_came config c id i view o)
   part_rules c id i view None = idle_rules c
   part_rules c id i view (Some job) = by_test (Rules config) (nat_eq job.id id && (nat_lt i (length job.parts) && not (has_part job i))) _ (idle c) (job_rules c (record job { parts = slice_set job.parts i (Some view) }) [] tt) (idle_rules c)
+
+  same_rules : (c : ControllerState) (id i : ℕ) (o : Option Job) → Rules config (same_came config c id i o)
+  same_rules c id i None = idle_rules c
+  same_rules c id i (Some job) = go (slice_get c.last.views i)
+    where
+      go : (o : Option (Option Record)) → Rules config (same_part config c id i job o)
+      go None = idle_rules c
+      go (Some view) = by_test (Rules config) (nat_eq job.id id && (nat_lt i (length job.parts) && not (has_part job i))) (job_turn config c (with_same job i view) []) (idle c) (job_rules c (with_same job i view) [] tt) (idle_rules c)
 
   -- ---- rounds
 
@@ -186,6 +194,7 @@ module _ (config : Config) where
   takes_rules c (RemoveAns i tag done latest num body) = removal_rules c i tag done num body c.eviction
   takes_rules c (SnapBegun id point) = begun_rules c id point c.job
   takes_rules c (SnapPart id i view) = part_rules c id i view c.job
+  takes_rules c (SnapSame id i) = same_rules c id i c.job
   takes_rules c (Stored job) = answered_rules c job c.eviction
   takes_rules c (Told number caller total item) = told_rules c number caller total item c.round
   takes_rules c (TopIs number server top) = top_rules c number server top c.round

@@ -16,7 +16,7 @@ use Rattle.far_base.specs.declared.party.Party.TheVariants.{Client, Switch, Serv
 use Rattle.far_base.specs.declared.plan.Config.{Config}
 use Rattle.far_base.specs.declared.plan.OpLine.{OpLine}
 use Rattle.far_base.specs.declared.plan.Order.{Order}
-use Rattle.far_base.specs.declared.plan.Order.TheVariants.{Admit as AdmitOrder, Evict as EvictOrder, Snap as SnapOrder, Stop as StopOrder}
+use Rattle.far_base.specs.declared.plan.Order.TheVariants.{Admit as AdmitOrder, Evict as EvictOrder, Snap as SnapOrder, Stop as StopOrder, StopAt as StopAtOrder}
 use Rattle.far_model.specs.Clients.{ClientState, client_takes, closed, preserves, answered_record, line_of, request}
 use Rattle.far_model.specs.Controller.{ControllerState, ready, tick}
 use Rattle.far_model.specs.Events.{Keeping, can_deliver_some, can_send, client_turn, delivers, does_order, handled, happens, happens_with, has_next, is_enabled, is_order_due, keeping_of, next_sent, reply_goes_to, restarts, server_turn, switch_turn, ticks}
@@ -214,6 +214,7 @@ step_counted plan k s (OrderOf j) able =
     by (Some (EvictOrder step key)) can = refl
     by (Some (SnapOrder step)) can = refl
     by (Some (StopOrder step)) can = refl
+    by (Some (StopAtOrder kind times)) can = refl
 
 -- ---- runs
 

@@ -3,10 +3,15 @@ use Rattle.std.specs.Prelude.{◌≡◌, ◌≢◌, ℕ}
 use Rattle.far_model.specs.State.{State, client_at, records_at}
 use Rattle.far_model.specs.View.{SwitchView, slot_at}
 
--- the switch and whether it runs
+-- how many packets of each kind have come to the switch
+pub record PassesUntouched (s t : State) : Type 0 where
+  pub passes : t.passes ≡ s.passes
+
+-- the switch, whether it runs, and what has come to it
 pub record SwitchUntouched (s t : State) : Type 0 where
   pub switch : t.switch ≡ s.switch
   pub running : t.running ≡ s.running
+  pub passes : t.passes ≡ s.passes
 
 pub record ClientsUntouched (s t : State) : Type 0 where
   pub clients : t.clients ≡ s.clients

@@ -12,7 +12,7 @@ ghost use Rattle.far_model.specs.Parties.{Turn};
 ghost use Rattle.far_model.specs.Pass.{Passed, with_slot};
 ghost use Rattle.far_model.specs.State.{State};
 ghost use Rattle.far_model.specs.View.{SlotView, SwitchView};
-ghost use Rattle.part_laws.specs.Untouched.{ClientsUntouched, ControllerUntouched, OtherClientsUntouched, OtherServersUntouched, OtherSlotsUntouched, ServersUntouched, SwitchUntouched};
+ghost use Rattle.part_laws.specs.Untouched.{ClientsUntouched, ControllerUntouched, OtherClientsUntouched, OtherServersUntouched, OtherSlotsUntouched, PassesUntouched, ServersUntouched, SwitchUntouched};
 
 /// A client's turn leaves the switch, the servers, the controller and the other clients.
 pub fn client_turns()
@@ -34,9 +34,9 @@ pub fn controller_turns()
     ensures { (s : State) (rest : List Message) (t : Turn ControllerState) → SwitchUntouched s (controller_turn s rest t) × ClientsUntouched s (controller_turn s rest t) × ServersUntouched s (controller_turn s rest t) }
 {}
 
-/// A stop leaves the clients, the servers and the controller.
+/// A stop leaves the clients, the servers, the controller, and the counts of what has come to the switch.
 pub fn stops_leave()
-    ensures { (plan : PlanView) (s : State) → ClientsUntouched s (stops plan s) × ServersUntouched s (stops plan s) × ControllerUntouched s (stops plan s) }
+    ensures { (plan : PlanView) (s : State) → ClientsUntouched s (stops plan s) × ServersUntouched s (stops plan s) × ControllerUntouched s (stops plan s) × PassesUntouched s (stops plan s) }
 {}
 
 /// A slot that is set leaves the other slots and all else of the switch.

@@ -55,7 +55,7 @@ first_none p (x ∷ xs) i d h off = go (λ j k. first_none p xs j d k off) (p x)
     go f false e k zero = e
     go f false e k (suc n) = f n (next (first_place p xs) refl k)
 
-free_is : (st : SlotState) → is_free st ≡ true → st ≡ Free
+pub free_is : (st : SlotState) → is_free st ≡ true → st ≡ Free
 free_is Free h = refl
 free_is (Admitting key tag) h = absurd cc
 free_is (Held key tag) h = absurd cc

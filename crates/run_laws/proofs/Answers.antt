@@ -17,9 +17,9 @@ use Rattle.far_model.specs.Log.{is_read}
 use Rattle.far_model.specs.Members.{Each}
 use Rattle.far_model.specs.Pass.{Passed, sent_to, reply_passes, is_tag, takes_reply, absorbing, raised, with_slot, with_taken, part_of}
 use Rattle.far_model.specs.State.{State, now, noted, stepped}
-use Rattle.far_model.specs.View.{SlotView, SwitchView, slot_at, entry_place, is_taken}
+use Rattle.far_model.specs.View.{SlotView, SwitchView, slot_at, entry_place, is_taken, held_record}
 use Rattle.run_laws.proofs.Frame.{NotOn, shown_lasts, shown_by_lasts, shown_within, has_own_lasts}
-use Rattle.run_laws.proofs.Keeps.{EmitsOp, Absent, AdmitsOther, ServesOp, ReadIsReplied, WriteIsReplied, IsBeingAnswered, Relies, Keeps}
+use Rattle.run_laws.proofs.Keeps.{EmitsOp, Absent, AdmitsOther, ServesOp, ReadIsReplied, WriteIsReplied, IsBeingAnswered, Relies, Keeps, part_relies, part_admits}
 use Rattle.run_laws.proofs.Requests.{Its, reach_none, reach_latest, reach_outdated, written_still, sent_still, set_passes, not_left, answering}
 use Rattle.run_laws.proofs.Slots.{IsEntry, SetsSlot, entry_is, taken_sets, with_slot_sets, both}
 use Rattle.run_laws.proofs.Step.{AreOthers, GoesWell, AdmitsNone, PassesFor, passed_state, pass_keeps}
@@ -189,13 +189,13 @@ module _ (plan : PlanView) (s : State) (k : Keeps plan s) (runs : s.running ≡ 
           (λ t n m c b old under. exposes (max m (max (slot_at s.switch i).num num)) (shown_within plan s.log key (max n (slot_at s.switch i).num) (max m (max (slot_at s.switch i).num num)) (c (slot_at s.switch i) here l under) (omega (arith, b))) (omega arith))
 
   -- an answer that leaves so keeps everything
-  leaves : (answer : Packet) → ((t : State) → IsBeingAnswered plan t caller op key → Relies plan t answer) → ((t : ℕ) → AdmitsOther t answer)
+  leaves : (packet answer : Packet) → ((t : State) → IsBeingAnswered plan t caller op key → Relies plan t answer) → ((t : ℕ) → AdmitsOther t answer)
       → (w : SwitchView) (second : Option Out) → PassesFor plan s w note key → ((t : State) → GoesWell plan t second) → AdmitsNone second
-      → Keeps plan (passed_state s rest (record { view = w; first = sent_to (Client caller) answer; second = second }) note)
-  leaves answer flies none w second f goes admits =
+      → Keeps plan (passed_state s rest packet (record { view = w; first = sent_to (Client caller) answer; second = second }) note)
+  leaves packet answer flies none w second f goes admits =
       let p : Passed = record { view = w; first = sent_to (Client caller) answer; second = second } in
-      let t : State = passed_state s rest p note in
-      pass_keeps plan (Its op) s rest p note key k f others none admits
+      let t : State = passed_state s rest packet p note in
+      pass_keeps plan (Its op) s rest packet p note key k f others none admits
       (λ g. (
         (flies t (answering plan s k runs rest caller op key others t note num shown near g (inl refl) (λ x. x, tt) h.serves), none),
         goes t,
@@ -220,29 +220,29 @@ module _ (plan : PlanView) (s : State) (k : Keeps plan s) (runs : s.running ≡ 
       ))
       (λ o n. n, tt) (tt, tt) (not_left plan s k runs rest caller op key others h.serves) (λ o n. n, tt)
 
-  pub reply_keeps : (answer : Packet) → ((t : State) → IsBeingAnswered plan t caller op key → Relies plan t answer) → ((t : ℕ) → AdmitsOther t answer)
-      → Keeps plan (passed_state s rest (reply_passes s.switch tag num body (sent_to (Client caller) answer) (entry_place key s.switch)) note)
-  reply_keeps answer flies none = place (entry_place key s.switch) refl
+  pub reply_keeps : (packet answer : Packet) → ((t : State) → IsBeingAnswered plan t caller op key → Relies plan t answer) → ((t : ℕ) → AdmitsOther t answer)
+      → Keeps plan (passed_state s rest packet (reply_passes s.switch tag num body (sent_to (Client caller) answer) (entry_place key s.switch)) note)
+  reply_keeps packet answer flies none = place (entry_place key s.switch) refl
     where
-      absorbed : (i : ℕ) → entry_place key s.switch ≡ Some i → takes_reply tag num (slot_at s.switch i) ≡ true → (b : Bool) → Keeps plan (passed_state s rest (record {
-        view = let slot = absorbing num body (slot_at s.switch i) in if b then with_slot s.switch i slot else with_taken (with_slot s.switch i slot) i;
+      absorbed : (i : ℕ) → entry_place key s.switch ≡ Some i → takes_reply tag num (slot_at s.switch i) ≡ true → (b : Bool) → Keeps plan (passed_state s rest packet (record {
+        view = let slot = absorbing num body (slot_at s.switch i) in if b then with_slot s.switch i slot else with_taken (with_slot s.switch i slot) i (held_record (slot_at s.switch i));
         first = sent_to (Client caller) answer;
         second = if b then None else part_of s.switch i;
       }) note)
       absorbed i e taken true =
-          leaves answer flies none (with_slot s.switch i (absorbing num body (slot_at s.switch i))) None
+          leaves packet answer flies none (with_slot s.switch i (absorbing num body (slot_at s.switch i))) None
           (absorbs (with_slot s.switch i (absorbing num body (slot_at s.switch i))) i e (with_slot_sets s.switch i (absorbing num body (slot_at s.switch i)) (entry_is key s.switch i e).within) taken) (λ t. tt) tt
       absorbed i e taken false =
-          leaves answer flies none (with_taken (with_slot s.switch i (absorbing num body (slot_at s.switch i))) i) (part_of s.switch i)
-          (absorbs (with_taken (with_slot s.switch i (absorbing num body (slot_at s.switch i))) i) i e (taken_sets s.switch i (absorbing num body (slot_at s.switch i)) (entry_is key s.switch i e).within) taken)
-          (λ t. (tt, λ tag. tt)) (λ tag. tt)
+          leaves packet answer flies none (with_taken (with_slot s.switch i (absorbing num body (slot_at s.switch i))) i (held_record (slot_at s.switch i))) (part_of s.switch i)
+          (absorbs (with_taken (with_slot s.switch i (absorbing num body (slot_at s.switch i))) i (held_record (slot_at s.switch i))) i e (taken_sets s.switch i (absorbing num body (slot_at s.switch i)) (entry_is key s.switch i e).within) taken)
+          (λ t. (part_relies plan t s.switch i, λ tag. part_admits s.switch i tag)) (λ tag. part_admits s.switch i tag)
 
-      met : (i : ℕ) → entry_place key s.switch ≡ Some i → (b : Bool) → takes_reply tag num (slot_at s.switch i) ≡ b → Keeps plan (passed_state s rest (if b
+      met : (i : ℕ) → entry_place key s.switch ≡ Some i → (b : Bool) → takes_reply tag num (slot_at s.switch i) ≡ b → Keeps plan (passed_state s rest packet (if b
           then Rattle.far_model.specs.Pass.changes s.switch i (absorbing num body (slot_at s.switch i)) (sent_to (Client caller) answer)
           else record { view = with_slot s.switch i (raised num (slot_at s.switch i)); first = sent_to (Client caller) answer; second = None }) note)
       met i e true taken = absorbed i e taken (is_taken s.switch i)
-      met i e false stays = leaves answer flies none (with_slot s.switch i (raised num (slot_at s.switch i))) None (raises i e stays) (λ t. tt) tt
+      met i e false stays = leaves packet answer flies none (with_slot s.switch i (raised num (slot_at s.switch i))) None (raises i e stays) (λ t. tt) tt
 
-      place : (o : Option ℕ) → entry_place key s.switch ≡ o → Keeps plan (passed_state s rest (reply_passes s.switch tag num body (sent_to (Client caller) answer) o) note)
-      place None e = leaves answer flies none s.switch None (none_passes (ap (slot_if s.switch) e)) (λ t. tt) tt
+      place : (o : Option ℕ) → entry_place key s.switch ≡ o → Keeps plan (passed_state s rest packet (reply_passes s.switch tag num body (sent_to (Client caller) answer) o) note)
+      place None e = leaves packet answer flies none s.switch None (none_passes (ap (slot_if s.switch) e)) (λ t. tt) tt
       place (Some i) e = met i e (takes_reply tag num (slot_at s.switch i)) refl

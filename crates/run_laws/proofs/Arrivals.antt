@@ -32,7 +32,7 @@ use Rattle.run_laws.proofs.Keeps.{AdmitsOther, IsDrawn, Relies, Keeps}
 use Rattle.run_laws.proofs.Seats.{counted, count_removed, count_append, count_one, owner, Seats, seats_last, unchanged_slots}
 use Rattle.run_laws.proofs.Slots.{key_cases, both, IsEntry, entry_is}
 
-state_within : (slots : List SlotState) (i : ℕ) (key : List ℕ) (tag : ℕ) → state_at slots i ≡ Admitting key tag → i < length slots
+pub state_within : (slots : List SlotState) (i : ℕ) (key : List ℕ) (tag : ℕ) → state_at slots i ≡ Admitting key tag → i < length slots
 state_within [] i key tag h = absurd cc
 state_within (x ∷ xs) zero key tag h = omega arith
 state_within (x ∷ xs) (suc i) key tag h = let b = state_within xs i key tag h in omega (arith, b)
@@ -42,7 +42,7 @@ both_true a b p q = ap (λ x. x && b) p ∙ q
 
 -- ---- what is counted once is there once
 
-none_left : (s : State) (n : ℕ) (m : Message) (p : Packet → Bool) → slice_get s.bag n ≡ Some m → p m.packet ≡ true → count_by (λ (x : Message). p x.packet) s.bag ≤ 1 → (x : Message) → Among x (remove s.bag n) → p x.packet ≡ true → ⊥
+pub none_left : (s : State) (n : ℕ) (m : Message) (p : Packet → Bool) → slice_get s.bag n ≡ Some m → p m.packet ≡ true → count_by (λ (x : Message). p x.packet) s.bag ≤ 1 → (x : Message) → Among x (remove s.bag n) → p x.packet ≡ true → ⊥
 none_left s n m p at hit most x a e =
     let first = count_removed (λ (x : Message). p x.packet) s.bag n m at in
     let one : counted (λ (x : Message). p x.packet) m ≡ 1 = ap (λ b. cond {A = ℕ} b 1 0) hit in

@@ -6,7 +6,7 @@ use Rattle.far_base.specs.PlanView.{PlanView}
 use Rattle.far_base.specs.declared.log.LogEntry.{LogEntry}
 use Rattle.far_base.specs.declared.packet.Message.{Message}
 use Rattle.far_base.specs.declared.packet.Packet.{Packet}
-use Rattle.far_base.specs.declared.packet.Packet.TheVariants.{GetReq, WriteReq, GetFwd, WriteFwd, GetRep, WriteRep, GetAns, WriteAns, Hot, Admit, AdmitAck, SnapStart, SnapBegun, SnapRead, SnapPart, Release, Ask, Told, TopAsk, TopIs}
+use Rattle.far_base.specs.declared.packet.Packet.TheVariants.{GetReq, WriteReq, GetFwd, WriteFwd, GetRep, WriteRep, GetAns, WriteAns, Hot, Admit, AdmitAck, SnapStart, SnapBegun, SnapRead, SnapPart, Release, Ask, Told, TopAsk, TopIs, SnapSame, SnapFrom}
 use Rattle.far_model.specs.Invariants.{entry}
 use Rattle.far_model.specs.Members.{Among, Each}
 use Rattle.far_model.specs.State.{State, client_at, now, noted}
@@ -22,6 +22,8 @@ is_plain (SnapStart epoch id) = true
 is_plain (SnapBegun id point) = true
 is_plain (SnapRead epoch id i) = true
 is_plain (SnapPart id i view) = true
+is_plain (SnapSame id i) = true
+is_plain (SnapFrom epoch id base) = true
 is_plain (Release point) = true
 is_plain (Ask round) = true
 is_plain (Told round caller total item) = true

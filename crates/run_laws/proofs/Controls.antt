@@ -12,7 +12,7 @@ use Rattle.far_model.specs.Invariants.{ShowsAtMost, look, entry, reach, reach_by
 use Rattle.far_model.specs.Members.{Among, Each, Pairs}
 use Rattle.far_model.specs.State.{State, client_at, now, noted}
 use Rattle.far_model.specs.View.{SlotView}
-use Rattle.run_laws.proofs.Frame.{AboutMine, NotOn, off_shows_each, member, shown_lasts, shown_within, Grows, written_lasts, left_lasts}
+use Rattle.run_laws.proofs.Frame.{counted_on, AboutMine, NotOn, off_shows_each, member, shown_lasts, shown_within, Grows, written_lasts, left_lasts}
 use Rattle.run_laws.proofs.Keeps.{AdmitsOther, IsDrawn, Relies, IsOpenOrAnswered, Keeps}
 use Rattle.run_laws.proofs.Step.{IsOther, NoteIs, IsNoSending, sent_before, next}
 
@@ -24,28 +24,28 @@ IsControlNote (Emitted op num body near) = ⊥
 IsControlNote (Answered op) = ⊥
 IsControlNote _ = Unit {0}
 
-abbrev Nobody : ℕ → Type 0
+abbrev pub Nobody : ℕ → Type 0
 Nobody op = ⊥
 
-note_is : (plan : PlanView) (s t : State) (e : LogEntry) → IsControlNote e → NoteIs plan Nobody s t e
+pub note_is : (plan : PlanView) (s t : State) (e : LogEntry) → IsControlNote e → NoteIs plan Nobody s t e
 note_is plan s t (Sent op line) h = absurd h
 note_is plan s t (Numbered op num) h = absurd h
 note_is plan s t (Emitted op num body near) h = absurd h
 note_is plan s t (Answered op) h = absurd h
 note_is plan s t _ h = record { fresh = tt; stands = tt; about = λ op n. n }
 
-note_off : (plan : PlanView) (key : List ℕ) (e : LogEntry) → IsControlNote e → NotOn plan key e
+pub note_off : (plan : PlanView) (key : List ℕ) (e : LogEntry) → IsControlNote e → NotOn plan key e
 note_off plan key (Emitted op num body near) h = absurd h
 note_off plan key (Sent op line) h = absurd h
 note_off plan key (Numbered op num) h = absurd h
 note_off plan key (Answered op) h = absurd h
 note_off plan key _ h = tt
 
-note_sends : (e : LogEntry) → IsControlNote e → IsNoSending e
+pub note_sends : (e : LogEntry) → IsControlNote e → IsNoSending e
 note_sends (Sent op line) h = absurd h
 note_sends _ h = λ op n. n
 
-note_about : (e : LogEntry) → IsControlNote e → AboutMine Nobody e
+pub note_about : (e : LogEntry) → IsControlNote e → AboutMine Nobody e
 note_about (Sent op line) h = absurd h
 note_about (Numbered op num) h = absurd h
 note_about (Emitted op num body near) h = absurd h
@@ -67,7 +67,7 @@ each_all : {A : Type 0} (P : A → Type 0) (xs : List A) → ((x : A) → P x) �
 each_all P [] f = tt
 each_all P (x ∷ xs) f = (f x, each_all P xs f)
 
-notes_rise : (notes : List LogEntry) → Each IsControlNote notes → Pairs Rises notes
+pub notes_rise : (notes : List LogEntry) → Each IsControlNote notes → Pairs Rises notes
 notes_rise [] h = tt
 notes_rise (e ∷ es) h = (each_all (Rises e) es (λ f. note_rises e f h.0), notes_rise es h.1)
 
@@ -135,8 +135,7 @@ controls_keep plan notes s t k c settles =
       log = c.log;
       about = each_to IsControlNote (AboutMine Nobody) notes note_about c.notes_are;
       steps = c.steps;
-      running = c.running;
-      counter = c.counter;
+      counted = counted_on s t c.running c.counter;
       more = λ key. subst (λ (w : Held). (look plan s key).num ≤ w.num) (sym (looks key)) (omega arith);
       drawn = drawn_on plan notes s t c;
       current = λ key tag n m d h b slot is old under. shown_within plan t.log key (max n slot.num) (max m slot.num)

@@ -69,7 +69,7 @@ reply_first v tag num body out (Some i) = go (takes_reply tag num (slot_at v i))
     go false = refl
 
 -- a message goes to a switch only while it runs
-runs_to : (running : Bool) (to : Party) → (running || not (is_switch to)) ≡ true → to ≡ Switch → running ≡ true
+pub runs_to : (running : Bool) (to : Party) → (running || not (is_switch to)) ≡ true → to ≡ Switch → running ≡ true
 runs_to true to h e = refl
 runs_to false to h e = absurd (let f : not (is_switch to) ≡ false = ap (λ w. not (is_switch w)) e in let g : true ≡ false = sym h ∙ f in cc)
 
@@ -103,19 +103,19 @@ module _ (plan : PlanView) (s : State) (k : Keeps plan s) (one : OneFlightPerOpe
       let goes : to ≡ Switch = (routed.messages _ a).target in
       let h = k.relies _ a in
       subst (λ w. Keeps plan (handled plan (record { reply = reply_at s w (GetRep caller op key tag num body); records = records }) s (remove s.bag i) w (GetRep caller op key tag num body))) (sym goes)
-      (subst (λ notes. Keeps plan (passed_state s (remove s.bag i) (reply_passes s.switch (Some tag) num body (sent_to (Client caller) (GetAns caller op key num body false)) (entry_place key s.switch)) notes))
+      (subst (λ notes. Keeps plan (passed_state s (remove s.bag i) (GetRep caller op key tag num body) (reply_passes s.switch (Some tag) num body (sent_to (Client caller) (GetAns caller op key num body false)) (entry_place key s.switch)) notes))
       (sym (ap emitted_notes (reply_first s.switch (Some tag) num body (sent_to (Client caller) (GetAns caller op key num body false)) (entry_place key s.switch))))
       (reply_keeps plan s k (runs_to s.running to can goes) (remove s.bag i) caller op key (rest_others plan s k one i _ caller op key at refl h.serves) (Some tag) num body body false
-      (read_reply plan s caller op key tag num body h) (GetAns caller op key num body false) (λ t f. f) (λ t. tt)))
+      (read_reply plan s caller op key tag num body h) (GetRep caller op key tag num body) (GetAns caller op key num body false) (λ t f. f) (λ t. tt)))
   operation_keeps from to (WriteRep caller op key num body) at can is =
       let a = among_at _ s.bag i at in
       let goes : to ≡ Switch = (routed.messages _ a).target in
       let h = k.relies _ a in
       subst (λ w. Keeps plan (handled plan (record { reply = reply_at s w (WriteRep caller op key num body); records = records }) s (remove s.bag i) w (WriteRep caller op key num body))) (sym goes)
-      (subst (λ notes. Keeps plan (passed_state s (remove s.bag i) (reply_passes s.switch None num body (sent_to (Client caller) (WriteAns caller op key num false)) (entry_place key s.switch)) notes))
+      (subst (λ notes. Keeps plan (passed_state s (remove s.bag i) (WriteRep caller op key num body) (reply_passes s.switch None num body (sent_to (Client caller) (WriteAns caller op key num false)) (entry_place key s.switch)) notes))
       (sym (ap emitted_notes (reply_first s.switch None num body (sent_to (Client caller) (WriteAns caller op key num false)) (entry_place key s.switch))))
       (reply_keeps plan s k (runs_to s.running to can goes) (remove s.bag i) caller op key (rest_others plan s k one i _ caller op key at refl h.serves) None num body None false
-      (write_reply plan s caller op key num body h) (WriteAns caller op key num false) (λ t f. f) (λ t. tt)))
+      (write_reply plan s caller op key num body h) (WriteRep caller op key num body) (WriteAns caller op key num false) (λ t f. f) (λ t. tt)))
   operation_keeps from to (GetAns caller op key num body near) at can is =
       let a = among_at _ s.bag i at in
       let h = k.relies _ a in

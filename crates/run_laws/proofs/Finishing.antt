@@ -1,19 +1,18 @@
 -- Where nothing is left to do, every operation is answered.
-use Rattle.std.proofs.Common.{◌≡◌, ◌≢◌, ℕ, zero, suc, ◌≤◌, ◌⊎◌, inl, inr, Bool, true, false, List, [], ◌∷◌, refl, sym, ap, ◌∙◌, subst, true≢false}
-use Rattle.std.specs.Prelude.{Option, Some, None, if◌then◌else◌, slice_index_or, is_some, not, ◌&&◌, ◌==◌, eqb}
+use Rattle.std.proofs.Common.{◌≡◌, ◌≢◌, ℕ, zero, suc, ◌⊎◌, inl, inr, true, List, [], ◌∷◌, refl, sym, ap, ◌∙◌, true≢false}
+use Rattle.std.specs.Prelude.{Option, Some, None, slice_index_or, is_some, not}
 use Rattle.std.specs.List.{list_all}
 use Rattle.std.proofs.lemmas.Bool.{and_parts}
 use Rattle.std.proofs.lemmas.Bool.Decides.{eqb_tells}
 use Rattle.far_base.specs.PlanView.{PlanView}
-use Rattle.far_base.specs.declared.event.Event.{Event}
 use Rattle.far_base.specs.declared.log.LogEntry.{LogEntry}
 use Rattle.far_base.specs.declared.log.LogEntry.TheVariants.{Answered}
 use Rattle.far_base.specs.declared.log.LogLine.{LogLine}
-use Rattle.far_model.specs.Answered.{AllAnswered, AreSentOrLeft, HasBeenSent}
+use Rattle.far_model.specs.Answered.{AllAnswered, AreSentOrLeft}
 use Rattle.far_model.specs.Clients.{ClientState, line_of}
 use Rattle.far_model.specs.Events.{has_next}
 use Rattle.far_model.specs.Invariants.{LogIsSound, IsAnsweredInFull}
-use Rattle.far_model.specs.Log.{At, answered_by, answering, first_told, is_read, or_later}
+use Rattle.far_model.specs.Log.{answered_by, first_told, is_read, or_later}
 use Rattle.far_model.specs.Members.{Among}
 use Rattle.far_model.specs.Runs.{is_done, is_finished}
 use Rattle.far_model.specs.State.{State, client_at, line_at, nobody}

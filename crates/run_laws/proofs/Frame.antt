@@ -114,13 +114,16 @@ shown_shown_by plan log key moment n h = λ at op num body near a on before. h a
 
 -- ---- one step
 
--- what a step does: its notes are of its own operations, time goes on, numbers of servers and of the counter rise
+-- where a switch that runs ran before, and its counter rises, what was counted is
+pub counted_on : (s t : State) → (t.running ≡ true → s.running ≡ true) → s.switch.counter ≤ t.switch.counter → (at op num : ℕ) → Among (line_at at (Numbered op num)) s.log → (s.running ≡ true → num ≤ s.switch.counter) → t.running ≡ true → num ≤ t.switch.counter
+counted_on s t running counter at op num a h runs = le_trans (h (running runs)) counter
+
+-- what a step does: its notes are of its own operations, time goes on, numbers of servers rise, and what was numbered stays counted
 pub record Grows (plan : PlanView) (Mine : ℕ → Type 0) (notes : List LogEntry) (s t : State) : Type 0 where
   pub log : t.log ≡ noted s notes
   pub about : Each (AboutMine Mine) notes
   pub steps : t.steps ≡ now s
-  pub running : t.running ≡ true → s.running ≡ true
-  pub counter : s.switch.counter ≤ t.switch.counter
+  pub counted : (at op num : ℕ) → Among (line_at at (Numbered op num)) s.log → (s.running ≡ true → num ≤ s.switch.counter) → t.running ≡ true → num ≤ t.switch.counter
   pub more : (key : List ℕ) → (look plan s key).num ≤ (look plan t key).num
   pub drawn : (tag : ℕ) → IsDrawn s tag → IsDrawn t tag
   pub current : (key : List ℕ) (tag n m : ℕ) → IsDrawn s tag → WouldBeCurrent plan s key tag n → n ≤ m → WouldBeCurrent plan t key tag m
@@ -158,15 +161,15 @@ module _ (plan : PlanView) (Mine : ℕ → Type 0) (notes : List LogEntry) (s t 
   stored_lasts moment op num near key (inr b) = inr (le_trans b (g.more key))
 
   -- a line stands as it stood
-  line_lasts : (moment : ℕ) (entry : LogEntry) → moment ≤ s.steps → LineStands plan s moment entry → LineStands plan t moment entry
-  line_lasts moment (Sent op line) b h = h
-  line_lasts moment (Numbered op num) b h = record {
+  line_lasts : (moment : ℕ) (entry : LogEntry) → Among (line_at moment entry) s.log → moment ≤ s.steps → LineStands plan s moment entry → LineStands plan t moment entry
+  line_lasts moment (Sent op line) a b h = h
+  line_lasts moment (Numbered op num) a b h = record {
     sent = sent_lasts moment op h.sent;
     write = h.write;
     above = h.above;
-    counted = λ runs. le_trans (h.counted (g.running runs)) g.counter;
+    counted = g.counted moment op num a h.counted;
   }
-  line_lasts moment (Emitted op num body near) b h = record {
+  line_lasts moment (Emitted op num body near) a b h = record {
     sent = sent_lasts moment op h.sent;
     key = h.key;
     on_key = h.on_key;
@@ -177,11 +180,11 @@ module _ (plan : PlanView) (Mine : ℕ → Type 0) (notes : List LogEntry) (s t 
     own = λ write. has_own_lasts moment moment op num (omega arith) (h.own write);
     stored = λ write. stored_lasts moment op num near h.key (h.stored write);
   }
-  line_lasts moment (Answered op) b h = answering_lasts moment moment op (omega arith) h
-  line_lasts moment _ b h = tt
+  line_lasts moment (Answered op) a b h = answering_lasts moment moment op (omega arith) h
+  line_lasts moment _ a b h = tt
 
-  pub line_is_lasts : (l : LogLine) → LineIs plan s l → LineIs plan t l
-  line_is_lasts l h = record { passed = le_trans h.passed past; stands = line_lasts l.moment l.entry h.passed h.stands }
+  pub line_is_lasts : (l : LogLine) → Among l s.log → LineIs plan s l → LineIs plan t l
+  line_is_lasts l a h = record { passed = le_trans h.passed past; stands = line_lasts l.moment l.entry a h.passed h.stands }
 
   -- ---- messages
 

@@ -7,14 +7,16 @@ use Rattle.far_base.specs.declared.log.LogEntry.TheVariants.{Sent, Numbered, Emi
 use Rattle.far_base.specs.declared.log.LogLine.{LogLine}
 use Rattle.far_base.specs.declared.packet.Message.{Message}
 use Rattle.far_base.specs.declared.packet.Packet.{Packet}
-use Rattle.far_base.specs.declared.packet.Packet.TheVariants.{GetReq, WriteReq, GetFwd, WriteFwd, GetRep, WriteRep, GetAns, WriteAns, Admit}
+use Rattle.far_base.specs.declared.packet.Packet.TheVariants.{GetReq, WriteReq, GetFwd, WriteFwd, GetRep, WriteRep, GetAns, WriteAns, Admit, SnapPart, SnapSame}
 use Rattle.far_model.specs.Clients.{line_of}
 use Rattle.far_model.specs.Coherent.{Earlier, HasOwnNumber, IsAnswering}
 use Rattle.far_model.specs.Invariants.{ShowsAtMostBy, ShowsAtMost, look, entry, reach, IsOwnNumber, IsWritten, WouldBeCurrent}
 use Rattle.far_model.specs.Log.{is_read}
 use Rattle.far_model.specs.Members.{Among, Pairs}
+use Rattle.far_model.specs.Pass.{part_packet, is_as_before}
 use Rattle.far_model.specs.State.{State, client_at, line_at}
-use Rattle.far_model.specs.View.{SlotView}
+use Rattle.far_model.specs.View.{SlotView, SwitchView, slot_at, held_record}
+use Rattle.flight_laws.proofs.Lists.{by_test}
 
 -- ---- what the log says of an operation
 
@@ -185,3 +187,10 @@ pub record Keeps (plan : PlanView) (s : State) : Type 0 where
   pub covers : s.running ≡ true → (key : List ℕ) → ShowsAtMost plan s.log key (reach plan s key)
   pub slots : (key : List ℕ) (slot : SlotView) → entry key s.switch ≡ Some slot → SlotIs plan s key slot
   pub untagged : IsDrawn s 0
+
+-- the part of a slot relies on nothing, and admits nothing
+pub part_relies : (plan : PlanView) (t : State) (v : SwitchView) (i : ℕ) → Relies plan t (part_packet v i)
+part_relies plan t v i = by_test (Relies plan t) (is_as_before v i) (SnapSame v.snap i) (SnapPart v.snap i (held_record (slot_at v i))) tt tt
+
+pub part_admits : (v : SwitchView) (i tag : ℕ) → AdmitsOther tag (part_packet v i)
+part_admits v i tag = by_test (AdmitsOther tag) (is_as_before v i) (SnapSame v.snap i) (SnapPart v.snap i (held_record (slot_at v i))) tt tt

@@ -10,10 +10,10 @@ use Rattle.far_base.specs.declared.event.Event.{Event}
 use Rattle.far_base.specs.declared.event.Event.TheVariants.{Send, Deliver, Tick, Recover, Restart, Order as OrderOf}
 use Rattle.far_base.specs.declared.packet.Message.{Message}
 use Rattle.far_base.specs.declared.packet.Packet.{Packet}
-use Rattle.far_base.specs.declared.packet.Packet.TheVariants.{GetReq, WriteReq, GetFwd, WriteFwd, GetRep, WriteRep, GetAns, WriteAns, Hot, Admit, AdmitAck, SnapStart, SnapBegun, SnapRead, SnapPart, Release}
+use Rattle.far_base.specs.declared.packet.Packet.TheVariants.{GetReq, WriteReq, GetFwd, WriteFwd, GetRep, WriteRep, GetAns, WriteAns, Hot, Admit, AdmitAck, SnapStart, SnapBegun, SnapRead, SnapPart, Release, SnapSame, SnapFrom}
 use Rattle.far_base.specs.declared.party.Party.{Party}
 use Rattle.far_base.specs.declared.plan.Order.{Order}
-use Rattle.far_base.specs.declared.plan.Order.TheVariants.{Admit as AdmitOrder, Evict as EvictOrder, Snap as SnapOrder, Stop as StopOrder}
+use Rattle.far_base.specs.declared.plan.Order.TheVariants.{Admit as AdmitOrder, Evict as EvictOrder, Snap as SnapOrder, Stop as StopOrder, StopAt as StopAtOrder}
 use Rattle.far_base.specs.declared.record.Record.{Record}
 use Rattle.far_base.specs.declared.slot_state.SlotState.TheVariants.{Free}
 use Rattle.far_model.specs.Invariants.{FitsState, IsGiven, admission_count}
@@ -40,7 +40,7 @@ use Rattle.run_laws.proofs.Openings.{opening_keeps}
 use Rattle.run_laws.proofs.Scripts.{send_keeps}
 use Rattle.run_laws.proofs.Slots.{both}
 use Rattle.run_laws.proofs.Seats.{Seats}
-use Rattle.run_laws.proofs.Snapshots.{calm_turn, want_dropped_calm, wanted_calm, start_calm, begun_calm, part_calm, snap_start_calm, snap_read_calm, release_calm}
+use Rattle.run_laws.proofs.Snapshots.{calm_turn, want_dropped_calm, wanted_calm, start_calm, begun_calm, part_calm, snap_start_calm, snap_from_calm, same_calm, snap_read_calm, release_calm}
 
 -- what is carried through such a run
 pub record Lasts (plan : PlanView) (s : State) : Type 0 where
@@ -77,6 +77,10 @@ module _ (plan : PlanView) (s : State) (h : Lasts plan s) (one : OneFlightPerOpe
       (let p = ack_keeps plan s h.keeps h.seats i from to j tag at in record { keeps = p.0; seats = p.1 })
   delivered from to (SnapStart epoch id) at can is = subst (λ w. Lasts plan (after w (SnapStart epoch id))) (sym (routed.messages _ (among_at _ s.bag i at)).target)
       (calm_lasts plan _ s _ (remove s.bag i) _ (rest_taken s i _ at refl) (snap_start_calm s (remove s.bag i) epoch id) h)
+  delivered from to (SnapFrom epoch id base) at can is = subst (λ w. Lasts plan (after w (SnapFrom epoch id base))) (sym (routed.messages _ (among_at _ s.bag i at)).target)
+      (calm_lasts plan _ s _ (remove s.bag i) _ (rest_taken s i _ at refl) (snap_from_calm s (remove s.bag i) epoch id base) h)
+  delivered from to (SnapSame id j) at can is = subst (λ w. Lasts plan (after w (SnapSame id j))) (sym (routed.messages _ (among_at _ s.bag i at)).target)
+      (calm_lasts plan _ s _ (remove s.bag i) _ (rest_taken s i _ at refl) (calm_turn s (remove s.bag i) _ s.done (same_calm plan.config s.controller id j s.controller.job)) h)
   delivered from to (SnapRead epoch id j) at can is = subst (λ w. Lasts plan (after w (SnapRead epoch id j))) (sym (routed.messages _ (among_at _ s.bag i at)).target)
       (calm_lasts plan _ s _ (remove s.bag i) _ (rest_taken s i _ at refl) (snap_read_calm s (remove s.bag i) epoch id j) h)
   delivered from to (SnapBegun id point) at can is = subst (λ w. Lasts plan (after w (SnapBegun id point))) (sym (routed.messages _ (among_at _ s.bag i at)).target)
@@ -135,6 +139,7 @@ module _ (plan : PlanView) (s : State) (h : Lasts plan s) where
   order_lasts (Some (EvictOrder step key)) due is done = absurd cc
   order_lasts (Some (SnapOrder step)) due is done = calm_lasts plan _ s _ s.bag _ (rest_all s) (calm_turn s s.bag _ done (start_calm s.controller)) h
   order_lasts (Some (StopOrder step)) due is done = absurd cc
+  order_lasts (Some (StopAtOrder kind times)) due is done = absurd cc
 
 pub step_lasts : (plan : PlanView) (s : State) (e : Event) → Lasts plan s → IsInFlight plan s → is_enabled plan s e ≡ true → is_lasting plan s e ≡ true → Lasts plan (happens plan s e)
 step_lasts plan s (Send c) h f can is = record { keeps = send_keeps plan s h.keeps c can; seats = send_sits plan s h.seats c }
@@ -151,7 +156,7 @@ run_lasts plan s [] h f r l = h
 run_lasts plan s (e ∷ es) h f r l =
     run_lasts plan (happens plan s e) es (step_lasts plan s e h f r.0 l.0) (flight_step plan (keeping_of s e) s e f (answers_in_kind s e) r.0) r.1 l.1
 
-opening_sits : (plan : PlanView) → Seats plan (opening plan)
+pub opening_sits : (plan : PlanView) → Seats plan (opening plan)
 opening_sits plan = record {
   running = refl;
   slots = record {

@@ -15,9 +15,9 @@ use Rattle.far_model.specs.Invariants.{ShowsAtMost, look, entry, slot_if, reach,
 use Rattle.far_model.specs.Members.{Among, Each}
 use Rattle.far_model.specs.Pass.{Passed, sent_to, read_passes, write_passes, numbered, absorbing, touched, told_hot, grows_hot, hot_cell, part_of, with_slot, with_taken}
 use Rattle.far_model.specs.State.{State, client_at, line_at, now, noted, stepped}
-use Rattle.far_model.specs.View.{SlotView, SwitchView, slot_at, entry_place, is_slot_of, is_taken, server_of}
+use Rattle.far_model.specs.View.{SlotView, SwitchView, slot_at, entry_place, is_slot_of, is_taken, server_of, held_record}
 use Rattle.run_laws.proofs.Frame.{NotOn, off_shows_each, member, note_member, absent_lasts, shown_lasts, shown_by_lasts, shown_within, shown_shown_by, Grows, serves_lasts}
-use Rattle.run_laws.proofs.Keeps.{EmitsOp, AnswersOp, IsSent, IsDrawn, ServesOp, ReadIsAsked, WriteIsAsked, IsBeingAnswered, Keeps}
+use Rattle.run_laws.proofs.Keeps.{EmitsOp, AnswersOp, IsSent, IsDrawn, ServesOp, ReadIsAsked, WriteIsAsked, IsBeingAnswered, Keeps, part_relies, part_admits}
 use Rattle.run_laws.proofs.Slots.{IsEntry, SetsSlot, entry_is, entry_set, entry_kept, taken_sets, with_slot_sets}
 use Rattle.run_laws.proofs.Step.{AreOthers, GoesWell, AdmitsNone, PassesFor, passed_state, pass_keeps, shown_counted}
 
@@ -136,11 +136,11 @@ module _ (plan : PlanView) (s : State) (k : Keeps plan s) (runs : s.running ≡ 
   -- a read that is forwarded, where the key has no latest slot
   forwards : (w : SwitchView) (second : Option Out) (tag : ℕ)
       → ((other : List ℕ) → entry other w ≡ entry other s.switch) → reach plan s key ≡ (look plan s key).num → IsDrawn s tag
-      → Grows plan (Its op) [] s (passed_state s rest (record { view = w; first = sent_to (Server (server_of s.switch.config key)) (GetFwd caller op key tag); second = second }) [])
+      → Grows plan (Its op) [] s (passed_state s rest (GetReq caller op key) (record { view = w; first = sent_to (Server (server_of s.switch.config key)) (GetFwd caller op key tag); second = second }) [])
       → ReadIsAsked plan s caller op key
-      → GoesWell plan (passed_state s rest (record { view = w; first = sent_to (Server (server_of s.switch.config key)) (GetFwd caller op key tag); second = second }) []) (sent_to (Server (server_of s.switch.config key)) (GetFwd caller op key tag))
+      → GoesWell plan (passed_state s rest (GetReq caller op key) (record { view = w; first = sent_to (Server (server_of s.switch.config key)) (GetFwd caller op key tag); second = second }) []) (sent_to (Server (server_of s.switch.config key)) (GetFwd caller op key tag))
   forwards w second tag same reaches drawn g h =
-      let t : State = passed_state s rest (record { view = w; first = sent_to (Server (server_of s.switch.config key)) (GetFwd caller op key tag); second = second }) [] in
+      let t : State = passed_state s rest (GetReq caller op key) (record { view = w; first = sent_to (Server (server_of s.switch.config key)) (GetFwd caller op key tag); second = second }) [] in
       let shown : ShowsAtMost plan t.log key (look plan s key).num = shown_lasts s t [] refl plan key (look plan s key).num (subst (λ n. ShowsAtMost plan s.log key n) reaches (k.covers runs key)) tt in (
         record {
           serves = serves_lasts plan (Its op) [] s t g caller op key (absent_lasts s t [] refl (AnswersOp op) h.serves.unanswered tt) h.serves;
@@ -159,9 +159,9 @@ module _ (plan : PlanView) (s : State) (k : Keeps plan s) (runs : s.running ≡ 
           → Keeps plan (switch_turn s rest (GetReq caller op key) (record { view = s.switch; first = sent_to (Client caller) (GetAns caller op key slot.num slot.body true); second = None }))
       near slot is latest =
           let p : Passed = record { view = s.switch; first = sent_to (Client caller) (GetAns caller op key slot.num slot.body true); second = None } in
-          let t : State = passed_state s rest p (Emitted op slot.num slot.body true ∷ []) in
+          let t : State = passed_state s rest (GetReq caller op key) p (Emitted op slot.num slot.body true ∷ []) in
           let reaches : reach plan s key ≡ slot.num = reach_latest (look plan s key).num (entry key s.switch) slot is latest in
-          pass_keeps plan (Its op) s rest p (Emitted op slot.num slot.body true ∷ []) key k (near_passes plan s op slot.body true key slot k h.serves.on_key is latest) others (λ tag. tt) tt
+          pass_keeps plan (Its op) s rest (GetReq caller op key) p (Emitted op slot.num slot.body true ∷ []) key k (near_passes plan s op slot.body true key slot k h.serves.on_key is latest) others (λ tag. tt) tt
           (λ g. (
             (answering t (Emitted op slot.num slot.body true ∷ []) slot.num slot.body true g (inl refl) (λ x. x, tt) h.serves, λ tag. tt),
             tt,
@@ -191,7 +191,7 @@ module _ (plan : PlanView) (s : State) (k : Keeps plan s) (runs : s.running ≡ 
           → Keeps plan (switch_turn s rest (GetReq caller op key) (record { view = s.switch; first = sent_to (Server (server_of s.switch.config key)) (GetFwd caller op key slot.tag); second = None }))
       outdated slot is old =
           let p : Passed = record { view = s.switch; first = sent_to (Server (server_of s.switch.config key)) (GetFwd caller op key slot.tag); second = None } in
-          pass_keeps plan (Its op) s rest p [] key k (quiet_passes plan s s.switch [] key k refl (omega arith) (λ other. refl) (λ other. tt)) others (λ tag. tt) tt
+          pass_keeps plan (Its op) s rest (GetReq caller op key) p [] key k (quiet_passes plan s s.switch [] key k refl (omega arith) (λ other. refl) (λ other. tt)) others (λ tag. tt) tt
           (λ g. (forwards s.switch None slot.tag (λ other. refl) (reach_outdated (look plan s key).num (entry key s.switch) slot is old) (k.slots key slot is).drawn g h, tt, tt))
           tt tt (not_left h.serves) tt
 
@@ -206,16 +206,16 @@ module _ (plan : PlanView) (s : State) (k : Keeps plan s) (runs : s.running ≡ 
       place : (o : Option ℕ) → entry_place key s.switch ≡ o → Keeps plan (switch_turn s rest (GetReq caller op key) (read_passes s.switch caller op key o))
       place None e =
           let p : Passed = read_passes s.switch caller op key None in
-          let hot = hot_goes plan (passed_state s rest p []) key s.switch in
-          pass_keeps plan (Its op) s rest p [] key k (quiet_passes plan s (touched key s.switch) [] key k refl (omega arith) (λ other. refl) (λ other. tt)) others (λ tag. tt) hot.1
+          let hot = hot_goes plan (passed_state s rest (GetReq caller op key) p []) key s.switch in
+          pass_keeps plan (Its op) s rest (GetReq caller op key) p [] key k (quiet_passes plan s (touched key s.switch) [] key k refl (omega arith) (λ other. refl) (λ other. tt)) others (λ tag. tt) hot.1
           (λ g. (forwards (touched key s.switch) (told_hot key s.switch) 0 (λ other. refl) (reach_none (look plan s key).num (entry key s.switch) (ap (slot_if s.switch) e)) k.untagged g h, hot.0, tt))
           tt tt (not_left h.serves) tt
       place (Some i) e = by_latest i (ap (slot_if s.switch) e) (slot_at s.switch i).latest refl
 
   -- ---- writes
 
-  abbrev write_after : SwitchView → Option Out → State
-  write_after w second = passed_state s rest (record { view = w; first = sent_to (Client caller) (WriteAns caller op key w.counter true); second = second }) (Numbered op w.counter ∷ Emitted op w.counter None true ∷ [])
+  abbrev write_after : Option (List ℕ) → SwitchView → Option Out → State
+  write_after body w second = passed_state s rest (WriteReq caller op key body) (record { view = w; first = sent_to (Client caller) (WriteAns caller op key w.counter true); second = second }) (Numbered op w.counter ∷ Emitted op w.counter None true ∷ [])
 
   abbrev write_notes : SwitchView → List LogEntry
   write_notes w = Numbered op w.counter ∷ Emitted op w.counter None true ∷ []
@@ -230,10 +230,10 @@ module _ (plan : PlanView) (s : State) (k : Keeps plan s) (runs : s.running ≡ 
   -- an entry takes the write
   write_absorbs : (body : Option (List ℕ)) (w : SwitchView) (second : Option Out) (i : ℕ) → WriteIsAsked plan s caller op key body → entry_place key s.switch ≡ Some i
       → SetsSlot (numbered s.switch) w i (absorbing w.counter body (slot_at s.switch i)) → s.switch.counter < w.counter → ((t : State) → GoesWell plan t second) → AdmitsNone second
-      → Keeps plan (write_after w second)
+      → Keeps plan (write_after body w second)
   write_absorbs body w second i h e sets above goes admits =
       let p : Passed = record { view = w; first = sent_to (Client caller) (WriteAns caller op key w.counter true); second = second } in
-      let t : State = write_after w second in
+      let t : State = write_after body w second in
       let is : IsEntry key (numbered s.switch) i = entry_is key (numbered s.switch) i e in
       let shown : ShowsAtMost plan t.log key w.counter = shown_lasts s t (write_notes w) refl plan key w.counter
       (shown_within plan s.log key s.switch.counter w.counter (shown_counted plan s k runs key) (omega (arith, above))) (tt, (λ q. omega arith, tt)) in
@@ -243,7 +243,7 @@ module _ (plan : PlanView) (s : State) (k : Keeps plan s) (runs : s.running ≡ 
       } in
       let f : PassesFor plan s w (write_notes w) key = set_passes plan s (numbered s.switch) w (write_notes w) key i (absorbing w.counter body (slot_at s.switch i)) refl (omega arith) (λ other. refl) sets is is.owned
       (λ other ne. (tt, (λ q. ne (sym q ∙ h.serves.on_key), tt))) (λ r. shown) (k.slots key (slot_at s.switch i) (ap (slot_if s.switch) e)).drawn (λ l. written) (λ tag n m c b old under. absurd cc) in
-      pass_keeps plan (Its op) s rest p (write_notes w) key k f others (λ tag. tt) admits
+      pass_keeps plan (Its op) s rest (WriteReq caller op key body) p (write_notes w) key k f others (λ tag. tt) admits
       (λ g. (
         (answering t (write_notes w) w.counter None true g (inr (inl refl)) (λ x. x, (λ x. x, tt)) h.serves, λ tag. tt),
         goes t,
@@ -279,7 +279,7 @@ module _ (plan : PlanView) (s : State) (k : Keeps plan s) (runs : s.running ≡ 
   write_keeps body h = place (entry_place key s.switch) refl
     where
       absorbed : (i : ℕ) → entry_place key s.switch ≡ Some i → (b : Bool) → Keeps plan (switch_turn s rest (WriteReq caller op key body) (record {
-        view = let slot = absorbing (s.switch.counter + 1) body (slot_at s.switch i) in if b then with_slot (numbered s.switch) i slot else with_taken (with_slot (numbered s.switch) i slot) i;
+        view = let slot = absorbing (s.switch.counter + 1) body (slot_at s.switch i) in if b then with_slot (numbered s.switch) i slot else with_taken (with_slot (numbered s.switch) i slot) i (held_record (slot_at s.switch i));
         first = sent_to (Client caller) (WriteAns caller op key (s.switch.counter + 1) true);
         second = if b then None else part_of (numbered s.switch) i;
       }))
@@ -289,15 +289,15 @@ module _ (plan : PlanView) (s : State) (k : Keeps plan s) (runs : s.running ≡ 
           (with_slot_sets (numbered s.switch) i (absorbing (s.switch.counter + 1) body (slot_at s.switch i)) is.within) (omega arith) (λ t. tt) tt
       absorbed i e false =
           let is : IsEntry key (numbered s.switch) i = entry_is key (numbered s.switch) i e in
-          write_absorbs body (with_taken (with_slot (numbered s.switch) i (absorbing (s.switch.counter + 1) body (slot_at s.switch i))) i) (part_of (numbered s.switch) i) i h e
-          (taken_sets (numbered s.switch) i (absorbing (s.switch.counter + 1) body (slot_at s.switch i)) is.within) (omega arith) (λ t. (tt, λ tag. tt)) (λ tag. tt)
+          write_absorbs body (with_taken (with_slot (numbered s.switch) i (absorbing (s.switch.counter + 1) body (slot_at s.switch i))) i (held_record (slot_at s.switch i))) (part_of (numbered s.switch) i) i h e
+          (taken_sets (numbered s.switch) i (absorbing (s.switch.counter + 1) body (slot_at s.switch i)) is.within) (omega arith) (λ t. (part_relies plan t (numbered s.switch) i, λ tag. part_admits (numbered s.switch) i tag)) (λ tag. part_admits (numbered s.switch) i tag)
 
       place : (o : Option ℕ) → entry_place key s.switch ≡ o → Keeps plan (switch_turn s rest (WriteReq caller op key body) (write_passes (numbered s.switch) caller op key body o))
       place None e =
           let p : Passed = write_passes (numbered s.switch) caller op key body None in
-          let t : State = passed_state s rest p (Numbered op (s.switch.counter + 1) ∷ []) in
+          let t : State = passed_state s rest (WriteReq caller op key body) p (Numbered op (s.switch.counter + 1) ∷ []) in
           let hot = hot_goes plan t key (numbered s.switch) in
-          pass_keeps plan (Its op) s rest p (Numbered op (s.switch.counter + 1) ∷ []) key k
+          pass_keeps plan (Its op) s rest (WriteReq caller op key body) p (Numbered op (s.switch.counter + 1) ∷ []) key k
           (quiet_passes plan s (touched key (numbered s.switch)) (Numbered op (s.switch.counter + 1) ∷ []) key k refl (omega arith) (λ other. refl) (λ other. (tt, tt))) others (λ tag. tt) hot.1
           (λ g. (
             (

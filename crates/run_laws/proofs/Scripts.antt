@@ -24,7 +24,7 @@ use Rattle.far_model.specs.Log.{is_read}
 use Rattle.far_model.specs.Members.{Among, Each, Pairs}
 use Rattle.far_model.specs.State.{State, client_at, line_at, now, stepped, nobody}
 use Rattle.far_model.proofs.Members.{among_append, each_among}
-use Rattle.run_laws.proofs.Frame.{sends_names, numbers_names, emits_names, answers_names, AboutMine, NotOn, off_shows_each, IsNote, absent_lasts, member, note_member, log_cases, shown_lasts, shown_within, Grows, written_lasts, answering_lasts, left_lasts, not_mine}
+use Rattle.run_laws.proofs.Frame.{counted_on, sends_names, numbers_names, emits_names, answers_names, AboutMine, NotOn, off_shows_each, IsNote, absent_lasts, member, note_member, log_cases, shown_lasts, shown_within, Grows, written_lasts, answering_lasts, left_lasts, not_mine}
 use Rattle.run_laws.proofs.Keeps.{SendsOp, NumbersOp, EmitsOp, AnswersOp, Absent, IsSent, AdmitsOther, IsDrawn, ServesOp, IsBeingAnswered, Relies, LeftIs, WasAnswered, IsOpenOrAnswered, Keeps}
 use Rattle.run_laws.proofs.Requests.{Its}
 use Rattle.run_laws.proofs.Slots.{both}
@@ -82,8 +82,7 @@ module _ (plan : PlanView) (op : ℕ) (s : State) (rest new : List Message) (not
         log = refl;
         about = about;
         steps = refl;
-        running = λ r. r;
-        counter = omega arith;
+        counted = counted_on s turned (λ r. r) (omega arith);
         more = λ key. omega arith;
         drawn = λ tag d. record { below = d.below; admitted = λ m h. admitted tag d m (among_append m rest new h) };
         current = λ key tag n m d c b slot is old under. shown_within plan turned.log key (max n slot.num) (max m slot.num)

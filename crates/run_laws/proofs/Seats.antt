@@ -89,7 +89,7 @@ fits_same a b (Admitting key tag) same h = valid_or_of key tag a b same h
 fits_same a b (Held key tag) same h = slot_of_same key tag a b same h
 fits_same a b (Evicting key tag) same h = valid_or_of key tag a b same h
 
-place_same : (v w : SwitchView) → SameSlots v w → (key : List ℕ) → entry_place key w ≡ entry_place key v
+pub place_same : (v w : SwitchView) → SameSlots v w → (key : List ℕ) → entry_place key w ≡ entry_place key v
 place_same v w same key = ap (λ b. entry_if key w (bound_place key b)) same.bound ∙ go (bound_place key v.bound)
   where
     go : (o : Option ℕ) → entry_if key w o ≡ entry_if key v o

@@ -1,6 +1,6 @@
 -- Each operation of the plan was sent, or its client has still to send it.
-use Rattle.std.proofs.Common.{◌≡◌, ℕ, zero, suc, ◌+◌, ◌-◌, ◌<◌, ◌≤◌, ◌⊎◌, inl, inr, Bool, true, false, List, [], ◌∷◌, ◌++◌, length, map, refl, sym, ap, ◌∙◌, subst, arith, zero-add, ◌≢◌, eqb}
-use Rattle.std.specs.Prelude.{Option, Some, None, if◌then◌else◌, slice_get, slice_set, slice_index_or, is_some, not, ◌&&◌, nat_lt, nat_eq}
+use Rattle.std.proofs.Common.{◌≡◌, ℕ, zero, suc, ◌+◌, ◌-◌, ◌<◌, ◌⊎◌, inl, inr, Bool, true, false, List, [], ◌∷◌, length, map, refl, sym, ap, ◌∙◌, subst, arith, zero-add, ◌≢◌, eqb}
+use Rattle.std.specs.Prelude.{Option, Some, None, if◌then◌else◌, slice_get, slice_set, slice_index_or, ◌&&◌, nat_lt, nat_eq}
 use Rattle.std.specs.List.{AllByRecursion}
 use Rattle.std.proofs.lemmas.Bool.{and_parts}
 use Rattle.std.proofs.lemmas.Bool.Decides.{eqb_tells}
@@ -9,24 +9,23 @@ use Rattle.far_base.specs.Limits.{IsPlan, IsOpLine}
 use Rattle.far_base.specs.PlanView.{PlanView}
 use Rattle.far_base.specs.declared.event.Event.{Event}
 use Rattle.far_base.specs.declared.event.Event.TheVariants.{Send, Deliver, Tick, Recover, Restart, Order as OrderOf}
-use Rattle.far_base.specs.declared.log.LogEntry.{LogEntry}
 use Rattle.far_base.specs.declared.log.LogEntry.TheVariants.{Sent}
 use Rattle.far_base.specs.declared.log.LogLine.{LogLine}
 use Rattle.far_base.specs.declared.packet.Message.{Message}
 use Rattle.far_base.specs.declared.packet.Packet.{Packet}
-use Rattle.far_base.specs.declared.packet.Packet.TheVariants.{GetReq, WriteReq, GetFwd, WriteFwd, GetRep, WriteRep, GetAns, WriteAns, Hot, Admit, AdmitAck, Peek, PeekAns, Remove, RemoveAns, SnapStart, SnapBegun, SnapRead, SnapPart, Store, Stored, Release, Ask, Told, TopAsk, TopIs}
+use Rattle.far_base.specs.declared.packet.Packet.TheVariants.{WriteAns}
 use Rattle.far_base.specs.declared.party.Party.{Party}
 use Rattle.far_base.specs.declared.party.Party.TheVariants.{Client, Switch, Server, Controller}
 use Rattle.far_base.specs.declared.plan.OpLine.{OpLine}
 use Rattle.far_base.specs.declared.plan.Order.{Order}
-use Rattle.far_base.specs.declared.plan.Order.TheVariants.{Admit as AdmitOrder, Evict as EvictOrder, Snap as SnapOrder, Stop as StopOrder}
+use Rattle.far_base.specs.declared.plan.Order.TheVariants.{Admit as AdmitOrder, Evict as EvictOrder, Snap as SnapOrder, Stop as StopOrder, StopAt as StopAtOrder}
 use Rattle.far_base.specs.declared.record.Record.{Record}
 use Rattle.far_model.proofs.Members.{among_append_left, among_append_right}
 use Rattle.flight_laws.proofs.WithoutCache.{client_within}
 use Rattle.far_model.specs.Answered.{HasBeenSent, AreSentOrLeft}
-use Rattle.far_model.specs.Clients.{ClientState, line_of, no_line, closed, preserves, answered_record, request, client_takes, script_from, opening_client}
+use Rattle.far_model.specs.Clients.{ClientState, line_of, no_line, closed, client_takes, script_from, opening_client}
 use Rattle.far_model.specs.Controller.{ControllerState, tick, ready, wanted, evict_key, start_snapshot, start_recovery}
-use Rattle.far_model.specs.Events.{Keeping, client_turn, controller_turn, next_sent, can_send, has_next, happens, happens_with, handled, delivers, does_order, keeping_of, restarts, ticks, is_enabled}
+use Rattle.far_model.specs.Events.{Keeping, client_turn, controller_turn, next_sent, happens, happens_with, handled, delivers, does_order, keeping_of, restarts, ticks, is_enabled}
 use Rattle.far_model.specs.Members.{Among}
 use Rattle.far_model.specs.Parties.{Turn, idle}
 use Rattle.far_model.specs.Runs.{run, IsRun}
@@ -94,6 +93,7 @@ order_lasts plan s (Some (AdmitOrder step key)) = controller_lasts s s.bag (idle
 order_lasts plan s (Some (EvictOrder step key)) = controller_lasts s s.bag (evict_key key s.controller)
 order_lasts plan s (Some (SnapOrder step)) = controller_lasts s s.bag (start_snapshot s.controller)
 order_lasts plan s (Some (StopOrder step)) = record { left = λ c. refl; member = λ l h. among_append_left l s.log _ h }
+order_lasts plan s (Some (StopAtOrder kind times)) = record { left = λ c. refl; member = λ l h. among_append_left l s.log _ h }
 
 -- ---- a client sends its next operation
 

@@ -6,7 +6,7 @@ use Rattle.std.proofs.lemmas.Option.{same_Some}
 use Rattle.std.proofs.lemmas.List.{get_or-set_same, get_or-set_other}
 use Rattle.far_model.specs.Log.{same_key}
 use Rattle.far_model.specs.Pass.{with_slot, with_taken}
-use Rattle.far_model.specs.View.{SlotView, SwitchView, slot_at, is_key_there, next_place, bound_place, is_slot_of, entry_if, entry_place, empty_slot}
+use Rattle.far_model.specs.View.{SlotView, SwitchView, slot_at, is_key_there, next_place, bound_place, is_slot_of, entry_if, entry_place, held_record, empty_slot}
 use Rattle.far_model.specs.Invariants.{entry, slot_if}
 
 pub same_key_true : (a b : List ℕ) → same_key a b ≡ true → a ≡ b
@@ -88,7 +88,7 @@ with_slot_sets v i slot h = record {
   there = λ j n. get_or-set_other v.slots i j slot empty_slot n;
 }
 
-pub taken_sets : (v : SwitchView) (i : ℕ) (slot : SlotView) → i < length v.slots → SetsSlot v (with_taken (with_slot v i slot) i) i slot
+pub taken_sets : (v : SwitchView) (i : ℕ) (slot : SlotView) → i < length v.slots → SetsSlot v (with_taken (with_slot v i slot) i (held_record (slot_at v i))) i slot
 taken_sets v i slot h = record {
   bound = refl;
   config = refl;

@@ -16,10 +16,11 @@ use Rattle.far_model.specs.Invariants.{ShowsAtMost, look, entry, reach, reach_by
 use Rattle.far_model.specs.Members.{Among, Each, Pairs}
 use Rattle.far_model.specs.Parties.{messages_from}
 use Rattle.far_model.specs.Pass.{Passed, passed_out, outs_of}
+use Rattle.far_model.specs.Passes.{with_pass}
 use Rattle.far_model.specs.State.{State, client_at, line_at, now, noted, stepped}
 use Rattle.far_model.specs.View.{SlotView, SwitchView}
 use Rattle.far_model.proofs.Members.{among_append, each_among}
-use Rattle.run_laws.proofs.Frame.{AboutMine, NotOn, IsNote, off_shows_each, log_cases, member, shown_lasts, shown_within, Grows, written_lasts, line_is_lasts, relies_lasts, left_lasts, IsFresh, order_lasts}
+use Rattle.run_laws.proofs.Frame.{AboutMine, NotOn, IsNote, off_shows_each, log_cases, member, shown_lasts, shown_within, counted_on, Grows, written_lasts, line_is_lasts, relies_lasts, left_lasts, IsFresh, order_lasts}
 use Rattle.run_laws.proofs.Keeps.{SendsOp, AdmitsOther, IsDrawn, LineStands, LineIs, Relies, LeftIs, SlotIs, IsOpenOrAnswered, Keeps}
 use Rattle.run_laws.proofs.Slots.{key_cases}
 
@@ -74,7 +75,7 @@ next plan Mine notes s t k g n pairs bag h = record {
 }
   where
     line : (l : LogLine) → Among l s.log ⊎ IsNote notes (now s) l → LineIs plan t l
-    line l (inl a) = line_is_lasts plan Mine notes s t g l (k.lines l a)
+    line l (inl a) = line_is_lasts plan Mine notes s t g l a (k.lines l a)
     line l (inr m) =
         let passed : now s ≤ t.steps = let e = g.steps in omega arith in
         let new : LineIs plan t (line_at (now s) m.entry) = record { passed = passed; stands = (each_among (NoteIs plan Mine s t) m.entry notes n m.among).stands } in
@@ -151,21 +152,20 @@ sent_before plan s t notes e none at op h = go (log_cases s t notes e _ h)
     go (inl a) = a
     go (inr m) = absurd (each_among IsNoSending m.entry notes none m.among op (subst (SendsOp op) (ap (λ (w : LogLine). w.entry) m.is) refl))
 
--- the state after a pass
-abbrev pub passed_state : State → List Message → Passed → List LogEntry → State
-passed_state s rest p notes = record (stepped s (rest ++ messages_from Switch (passed_out p)) notes) { switch = p.view }
+-- the state after a packet has passed
+abbrev pub passed_state : State → List Message → Packet → Passed → List LogEntry → State
+passed_state s rest packet p notes = record (stepped s (rest ++ messages_from Switch (passed_out p)) notes) { switch = p.view; passes = with_pass s.passes packet }
 
-module _ (plan : PlanView) (Mine : ℕ → Type 0) (s : State) (rest : List Message) (p : Passed) (notes : List LogEntry) (key : List ℕ) where
+module _ (plan : PlanView) (Mine : ℕ → Type 0) (s : State) (rest : List Message) (packet : Packet) (p : Passed) (notes : List LogEntry) (key : List ℕ) where
   abbrev after : State
-  after = passed_state s rest p notes
+  after = passed_state s rest packet p notes
 
   pub pass_grows : PassesFor plan s p.view notes key → AreOthers Mine s rest → AdmitsNone p.first → AdmitsNone p.second → Each (AboutMine Mine) notes → Grows plan Mine notes s after
   pass_grows f others a b about = record {
     log = refl;
     about = about;
     steps = refl;
-    running = λ r. r;
-    counter = f.counter;
+    counted = counted_on s after (λ r. r) f.counter;
     more = λ other. omega arith;
     drawn = drawn;
     current = λ other tag n m d c b slot is old under. current other (key_cases other key) tag n m c b slot is old under;

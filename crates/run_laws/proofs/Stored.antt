@@ -19,7 +19,7 @@ use Rattle.far_model.specs.Servers.{kept, record_of, server_reply}
 use Rattle.far_model.specs.State.{State, client_at, records_at, now, stepped}
 use Rattle.far_model.specs.View.{SlotView, server_of}
 use Rattle.far_model.proofs.Members.{among_append}
-use Rattle.run_laws.proofs.Frame.{absent_lasts, member, shown_lasts, shown_by_lasts, shown_within, Grows, serves_lasts, tagged_lasts, written_lasts, left_lasts, past}
+use Rattle.run_laws.proofs.Frame.{counted_on, absent_lasts, member, shown_lasts, shown_by_lasts, shown_within, Grows, serves_lasts, tagged_lasts, written_lasts, left_lasts, past}
 use Rattle.run_laws.proofs.Keeps.{EmitsOp, AnswersOp, AdmitsOther, IsDrawn, ServesOp, ReadIsForwarded, WriteIsForwarded, Relies, IsOpenOrAnswered, Keeps}
 use Rattle.run_laws.proofs.Requests.{Its}
 use Rattle.run_laws.proofs.Slots.{same_key_true, same_key_refl, key_cases}
@@ -107,8 +107,7 @@ module _ (plan : PlanView) (op : ℕ) (s : State) (rest : List Message) (servers
         log = refl;
         about = tt;
         steps = refl;
-        running = λ r. r;
-        counter = omega arith;
+        counted = counted_on s served (λ r. r) (omega arith);
         more = more;
         drawn = λ tag d. record { below = d.below; admitted = λ m h. admitted tag d m (among_append m rest (reply ∷ []) h) };
         current = λ key tag n m d c b slot is old under. shown_within plan served.log key (max n slot.num) (max m slot.num)

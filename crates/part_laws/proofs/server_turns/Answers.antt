@@ -5,4 +5,4 @@ use Rattle.far_model.specs.State.{records_at}
 use Rattle.part_laws.proofs.server_turns.Goals as goal
 
 pub returns : goal.returns
-returns c s server rest packet reply = (record { switch = refl; running = refl }, record { clients = refl }, record { controller = refl }, λ other apart. get_or-set_other s.servers server other (server_keeps (records_at s server) packet) [] apart)
+returns c s server rest packet reply = (record { switch = refl; running = refl; passes = refl }, record { clients = refl }, record { controller = refl }, λ other apart. get_or-set_other s.servers server other (server_keeps (records_at s server) packet) [] apart)
