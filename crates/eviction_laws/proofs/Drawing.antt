@@ -24,8 +24,8 @@ use Rattle.far_model.specs.Members.{Among, Each, Pairs}
 use Rattle.far_model.specs.Parties.{Turn, idle, to_party, messages_from}
 use Rattle.far_model.specs.Pass.{Passed, pass, sent_to, passed_out, outs_of, read_passes, write_passes, reply_passes, numbered, told_hot, grows_hot, hot_cell, changes, part_left, part_of, with_slot, with_taken, absorbing, raised, takes_reply, admits, peeks, removes, removed_answer, may_go, is_under, dropped, starts_snapshot, reads_part, is_slot_there, is_as_before}
 use Rattle.far_model.specs.Past.{DrawnTag}
-use Rattle.far_model.specs.Rounds.{Round, asks_tops, has_told, telling_at, has_top}
-use Rattle.far_model.specs.Snapshots.{Job, has_begun, has_come, has_part, is_whole, completed, part_reads, with_same}
+use Rattle.far_model.specs.Rounds.{Round, asks_tops, has_told, telling_at}
+use Rattle.far_model.specs.Snapshots.{Job, has_begun, has_part, is_whole, completed, part_reads, with_same}
 use Rattle.far_model.specs.State.{State}
 use Rattle.far_model.specs.View.{SwitchView, slot_at, entry_place, is_taken, server_of, shown_body, empty_slot, held_record}
 use Rattle.far_model.proofs.Members.{among_append, among_append_left, among_map_from, each_among}
@@ -220,7 +220,7 @@ module _ (plan : PlanView) (s : State) (v : EvictionsAreSound plan s) (drawn : L
 
   reads_draw : (epoch id i : ℕ) (parts : List (Option (Option Record))) → EachIsDrawn drawn (part_reads epoch id i parts)
   reads_draw epoch id i [] = tt
-  reads_draw epoch id i (part ∷ parts) = by_test (EachIsDrawn drawn) (has_come part) (part_reads epoch id (suc i) parts) (to_party Switch (SnapRead epoch id i) ∷ part_reads epoch id (suc i) parts) (reads_draw epoch id (suc i) parts) (tt, reads_draw epoch id (suc i) parts)
+  reads_draw epoch id i (part ∷ parts) = by_test (EachIsDrawn drawn) (is_some part) (part_reads epoch id (suc i) parts) (to_party Switch (SnapRead epoch id i) ∷ part_reads epoch id (suc i) parts) (reads_draw epoch id (suc i) parts) (tt, reads_draw epoch id (suc i) parts)
 
   job_draws : (job : Job) (out : List Out) → EachIsDrawn drawn out → Draws (job_turn plan.config s.controller job out)
   job_draws job out k = by_test Draws (is_whole job) (completes plan.config s.controller (completed job) job.sames) (record { state = record s.controller { job = Some job }; out = out; notes = [] })
@@ -313,7 +313,7 @@ module _ (plan : PlanView) (s : State) (v : EvictionsAreSound plan s) (drawn : L
 
   top_draws : (number server top : ℕ) (o : Option Round) → Draws (top_told plan.config s.controller number server top o)
   top_draws number server top None = idle_draws
-  top_draws number server top (Some r) = by_test Draws (nat_eq r.number number && (r.asked && (nat_lt server (length r.tops) && not (has_top (Rattle.std.specs.Prelude.slice_index_or r.tops server None)))))
+  top_draws number server top (Some r) = by_test Draws (nat_eq r.number number && (r.asked && (nat_lt server (length r.tops) && not (is_some (Rattle.std.specs.Prelude.slice_index_or r.tops server None)))))
       (record { state = record s.controller { round = Some (record r { tops = Rattle.std.specs.Prelude.slice_set r.tops server (Some top) }) }; out = []; notes = [] }) (idle s.controller)
       (record { tags = refl; epoch = refl; given = λ i key tag g. g; outs = tt }) idle_draws
 

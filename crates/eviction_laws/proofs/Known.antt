@@ -1,4 +1,5 @@
 -- Packets of operations show only what is known.
+use Rattle.far_base.specs.declared.record.Versioned.{Versioned}
 use Rattle.std.proofs.Common.{◌≡◌, ℕ, ◌+◌, ◌<◌, ◌≤◌, max, ◌⊎◌, inl, inr, Bool, true, false, List, [], ◌∷◌, refl, sym, ap, ◌∙◌, subst, arith}
 use Rattle.std.proofs.lemmas.Bool.Decides.{leb_tells}
 use Rattle.std.specs.Prelude.{Option, Some, None, if◌then◌else◌, ◌&&◌, nat_le, nat_lt, slice_get, get_or, set}
@@ -19,14 +20,13 @@ use Rattle.far_base.specs.declared.record.Record.{Record}
 use Rattle.far_model.specs.Clients.{ClientState, line_of, request, client_takes, preserves, closed, answered_record}
 use Rattle.far_model.specs.Events.{handled, reply_at, sends, next_sent, switch_turn, server_turn, client_turn}
 use Rattle.far_model.specs.Flights.{subject, is_operation, IsRouted}
-use Rattle.far_model.specs.History.{Held}
 use Rattle.far_model.specs.Invariants.{look}
 use Rattle.far_model.specs.KeyedRecords.{found, put_record}
 use Rattle.far_model.specs.Log.{is_read, same_key}
 use Rattle.far_model.specs.Members.{Among}
 use Rattle.far_model.specs.Parties.{Turn}
 use Rattle.far_model.specs.Pass.{Passed, sent_to, read_passes, write_passes, reply_passes, numbered, told_hot, grows_hot, hot_cell, changes, part_of, with_slot, with_taken, absorbing, raised, takes_reply, emitted_notes}
-use Rattle.far_model.specs.Servers.{record_of, kept, get_reply, write_reply}
+use Rattle.far_model.specs.Servers.{record_of, get_reply, write_reply, stored}
 use Rattle.far_model.specs.State.{State, client_at, records_at, now}
 use Rattle.far_model.specs.View.{SlotView, SwitchView, slot_at, entry_place, is_taken, server_of, held_record}
 use Rattle.far_model.proofs.Members.{among_at, among_remove}
@@ -264,21 +264,21 @@ module _ (plan : PlanView) (s : State) (some_server : 0 < plan.config.servers) (
       (λ other. ap (λ (l : List (List Record)). found (get_or l (server_of plan.config other) []) other) same) in
       subst (λ w. ShownIsKnown plan (after w (GetFwd caller op key tag))) (sym (routed.messages _ (among_at _ s.bag i at)).target)
       (server_knows plan s h left_over olds (server_of plan.config key) (GetFwd caller op key tag) (get_reply caller op key tag (found (records_at s (server_of plan.config key)) key))
-      (λ other. let n = ap (λ (w : Held). w.num) (looks other) in omega (arith, n)) (let n = ap (λ (w : Held). w.num) (looks key) in omega (arith, n)))
+      (λ other. let n = ap (λ (w : Versioned). w.num) (looks other) in omega (arith, n)) (let n = ap (λ (w : Versioned). w.num) (looks key) in omega (arith, n)))
   operation_knows from to (WriteFwd caller op key num body) at is =
-      let t : State = server_turn s (server_of plan.config key) left_over (WriteFwd caller op key num body) (Some (write_reply caller op key (found (kept (records_at s (server_of plan.config key)) (record_of key num body)) key))) in
+      let t : State = server_turn s (server_of plan.config key) left_over (WriteFwd caller op key num body) (Some (write_reply caller op key (found (stored (records_at s (server_of plan.config key)) (record_of key num body)) key))) in
       subst (λ w. ShownIsKnown plan (after w (WriteFwd caller op key num body))) (sym (routed.messages _ (among_at _ s.bag i at)).target)
-      (server_knows plan s h left_over olds (server_of plan.config key) (WriteFwd caller op key num body) (write_reply caller op key (found (kept (records_at s (server_of plan.config key)) (record_of key num body)) key))
-      (λ other. more_at plan s some_server routed.servers (record_of key num body) t refl other) (let n = ap (λ (w : Held). w.num) (its_look plan s some_server routed.servers (record_of key num body) t refl) in omega (arith, n)))
+      (server_knows plan s h left_over olds (server_of plan.config key) (WriteFwd caller op key num body) (write_reply caller op key (found (stored (records_at s (server_of plan.config key)) (record_of key num body)) key))
+      (λ other. more_at plan s some_server routed.servers (record_of key num body) t refl other) (let n = ap (λ (w : Versioned). w.num) (its_look plan s some_server routed.servers (record_of key num body) t refl) in omega (arith, n)))
   operation_knows from to (GetAns caller op key num body near) at is =
       subst (λ w. ShownIsKnown plan (after w (GetAns caller op key num body near))) (sym (routed.messages _ (among_at _ s.bag i at)).target)
       (let turn : Turn ClientState = client_takes plan.ops caller (client_at s caller) (GetAns caller op key num body near) in
       let o : Onward plan s (client_turn s caller left_over turn) = served_onward plan s h left_over olds caller turn in
       client_knows plan s h left_over olds caller turn (tt, tt) tt (λ r b. known_onward plan s (client_turn s caller left_over turn) o r.key r.num (h.preserved caller r b)))
-  operation_knows from to (WriteAns caller op key num kept) at is =
+  operation_knows from to (WriteAns caller op key num stored) at is =
       let a = among_at _ s.bag i at in
-      subst (λ w. ShownIsKnown plan (after w (WriteAns caller op key num kept))) (sym (routed.messages _ a).target)
-      (let turn : Turn ClientState = client_takes plan.ops caller (client_at s caller) (WriteAns caller op key num kept) in
+      subst (λ w. ShownIsKnown plan (after w (WriteAns caller op key num stored))) (sym (routed.messages _ a).target)
+      (let turn : Turn ClientState = client_takes plan.ops caller (client_at s caller) (WriteAns caller op key num stored) in
       let o : Onward plan s (client_turn s caller left_over turn) = served_onward plan s h left_over olds caller turn in
       client_knows plan s h left_over olds caller turn (tt, tt) tt (λ r b. known_onward plan s (client_turn s caller left_over turn) o r.key r.num (keeps r (h.packets _ a) b)))
     where
@@ -289,8 +289,8 @@ module _ (plan : PlanView) (s : State) (some_server : 0 < plan.config.servers) (
       put r known (inl e) = subst (RecordIsKnown plan s) (sym e) known
       put r known (inr b) = h.preserved caller r b
 
-      keeps : (r : Record) → IsKnown plan s (line_of plan.ops op).key num → Among r (preserves (closed (client_at s caller)) kept (answered_record plan.ops op num)).preserved → RecordIsKnown plan s r
-      keeps r known b = by_test (λ (c : ClientState). Among r c.preserved → RecordIsKnown plan s r) (kept && nat_lt (client_at s caller).released num)
+      keeps : (r : Record) → IsKnown plan s (line_of plan.ops op).key num → Among r (preserves (closed (client_at s caller)) stored (answered_record plan.ops op num)).preserved → RecordIsKnown plan s r
+      keeps r known b = by_test (λ (c : ClientState). Among r c.preserved → RecordIsKnown plan s r) (stored && nat_lt (client_at s caller).released num)
           (record (closed (client_at s caller)) { preserved = put_record (answered_record plan.ops op num) (client_at s caller).preserved }) (closed (client_at s caller))
           (λ c. put r known (put_among (answered_record plan.ops op num) r (client_at s caller).preserved c)) (λ c. h.preserved caller r c) b
   operation_knows from to _ at is = absurd cc

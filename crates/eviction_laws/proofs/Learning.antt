@@ -22,8 +22,8 @@ use Rattle.far_model.specs.Evictions.{Eviction, Next, Send, Store as StoreNext, 
 use Rattle.far_model.specs.Members.{Among, Each}
 use Rattle.far_model.specs.Parties.{Turn, idle, to_party}
 use Rattle.far_model.specs.Pass.{Passed, pass, sent_to, admits, admitted, peeks, removes, removed_answer, may_go, is_under, changes, dropped, starts_snapshot, reads_part, is_slot_there, with_slot, with_taken, part_of, pass_notes, is_as_before, part_packet}
-use Rattle.far_model.specs.Rounds.{Round, asks_tops, has_told, telling_at, has_top}
-use Rattle.far_model.specs.Snapshots.{Job, has_begun, has_come, has_part, is_whole, completed, part_reads, view_items, view_in, view_records, new_job, with_same}
+use Rattle.far_model.specs.Rounds.{Round, asks_tops, has_told, telling_at}
+use Rattle.far_model.specs.Snapshots.{Job, has_begun, has_part, is_whole, completed, part_reads, view_items, view_in, view_records, new_job, with_same}
 use Rattle.far_model.specs.State.{State, client_at}
 use Rattle.far_model.specs.View.{SlotView, SwitchView, slot_at, shown_body, empty_slot, is_taken, held_record}
 use Rattle.flight_laws.proofs.Lists.{by_test}
@@ -114,7 +114,7 @@ module _ (plan : PlanView) (s : State) (h : ShownIsKnown plan s) (rest : List Me
 
   reads_known : (t : State) (epoch id i : ℕ) (parts : List (Option (Option Record))) → EachIsKnown plan t (part_reads epoch id i parts)
   reads_known t epoch id i [] = tt
-  reads_known t epoch id i (part ∷ parts) = by_test (EachIsKnown plan t) (has_come part) (part_reads epoch id (suc i) parts) (to_party Switch (SnapRead epoch id i) ∷ part_reads epoch id (suc i) parts)
+  reads_known t epoch id i (part ∷ parts) = by_test (EachIsKnown plan t) (is_some part) (part_reads epoch id (suc i) parts) (to_party Switch (SnapRead epoch id i) ∷ part_reads epoch id (suc i) parts)
       (reads_known t epoch id (suc i) parts) (tt, reads_known t epoch id (suc i) parts)
 
   items_control : (i : ℕ) (views : List (Option Record)) → Each IsControlNote (view_items i views)
@@ -269,7 +269,7 @@ module _ (plan : PlanView) (s : State) (h : ShownIsKnown plan s) (rest : List Me
 
   pub top_knows : (number server top : ℕ) (o : Option Round) → ShownIsKnown plan (ruled (top_told plan.config s.controller number server top o))
   top_knows number server top None = idle_knows
-  top_knows number server top (Some r) = by_test (λ t. ShownIsKnown plan (ruled t)) (nat_eq r.number number && (r.asked && (nat_lt server (length r.tops) && not (has_top (Rattle.std.specs.Prelude.slice_index_or r.tops server None)))))
+  top_knows number server top (Some r) = by_test (λ t. ShownIsKnown plan (ruled t)) (nat_eq r.number number && (r.asked && (nat_lt server (length r.tops) && not (is_some (Rattle.std.specs.Prelude.slice_index_or r.tops server None)))))
       topped (idle s.controller) (same_knows topped refl refl refl tt tt) idle_knows
     where
       topped : Turn ControllerState

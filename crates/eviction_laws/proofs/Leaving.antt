@@ -23,7 +23,7 @@ use Rattle.far_model.specs.Log.{is_read}
 use Rattle.far_model.specs.Members.{Among}
 use Rattle.far_model.specs.Parties.{Turn, messages_from}
 use Rattle.far_model.specs.Pass.{Passed, sent_to, passed_out, pass_notes, outs_of, read_passes, write_passes, reply_passes, numbered, told_hot, grows_hot, hot_cell, changes, part_left, part_of, with_slot, absorbing, raised, takes_reply, is_as_before}
-use Rattle.far_model.specs.Servers.{record_of, kept}
+use Rattle.far_model.specs.Servers.{record_of, stored}
 use Rattle.far_model.specs.State.{State, client_at, records_at}
 use Rattle.far_model.specs.View.{SwitchView, slot_at, entry_place, is_taken, server_of, held_record}
 use Rattle.far_model.proofs.Members.{among_append, among_at, among_remove}
@@ -230,9 +230,9 @@ module _ (plan : PlanView) {c : Content} (s : State) (some_server : 0 < plan.con
   operation_leaves from to (GetAns caller op key num body near) at is answers =
       subst (λ w. EvictionsAre plan c (handled plan k s (remove s.bag i) w (GetAns caller op key num body near))) (sym (routed.messages _ (among_at _ s.bag i at)).target)
       (at_client caller _ (client_takes plan.ops caller (client_at s caller) (GetAns caller op key num body near)) at refl refl)
-  operation_leaves from to (WriteAns caller op key num kept) at is answers =
-      subst (λ w. EvictionsAre plan c (handled plan k s (remove s.bag i) w (WriteAns caller op key num kept))) (sym (routed.messages _ (among_at _ s.bag i at)).target)
-      (at_client caller _ (client_takes plan.ops caller (client_at s caller) (WriteAns caller op key num kept)) at refl refl)
+  operation_leaves from to (WriteAns caller op key num stored) at is answers =
+      subst (λ w. EvictionsAre plan c (handled plan k s (remove s.bag i) w (WriteAns caller op key num stored))) (sym (routed.messages _ (among_at _ s.bag i at)).target)
+      (at_client caller _ (client_takes plan.ops caller (client_at s caller) (WriteAns caller op key num stored)) at refl refl)
   operation_leaves from to _ at is answers = absurd cc
 
   pub moved_leaves : (m : Message) → slice_get s.bag i ≡ Some m → is_operation (subject m.packet) ≡ true → RepliesAt m.to m.packet k.reply → EvictionsAre plan c (handled plan k s (remove s.bag i) m.to m.packet)

@@ -1,4 +1,5 @@
 -- The entries that the walk over the history leaves are the last writes by key.
+use Rattle.far_base.specs.declared.record.Versioned.{Versioned}
 use Rattle.std.proofs.Common.{◌≡◌, ◌≢◌, ℕ, Bool, true, false, List, [], ◌∷◌, map, refl, sym, ap, subst, inl, inr, Option, None, Some, ◌∙◌}
 use Rattle.std.specs.Prelude.{if◌then◌else◌, slice_index_or}
 use Rattle.std.specs.declared.cmp.Ordering.{Ordering}
@@ -13,7 +14,7 @@ use Rattle.far_base.specs.declared.log.LogLine.{LogLine}
 use Rattle.far_base.specs.declared.log.Placed.{Placed}
 use Rattle.far_model.specs.Members.{Among, Each, Pairs}
 use Rattle.far_model.specs.Log.{At, same_key, sending}
-use Rattle.far_model.specs.History.{Held, IsPlace, IsHistory, key_of, written_by, last_write, held_in, IsKeyBefore, IsFinalMap}
+use Rattle.far_model.specs.History.{IsPlace, IsHistory, key_of, written_by, last_write, held_in, IsKeyBefore, IsFinalMap}
 use Rattle.far_history.specs.declared.told.Sending.{Sending}
 use Rattle.far_history.specs.declared.told.Told.{Told}
 use Rattle.far_history.specs.declared.last_writes.LastWrite.{LastWrite}
@@ -116,7 +117,7 @@ found_inserted q (e ∷ es) k v =
       twice true = refl
       twice false = refl
 
-abbrev held_of : Option LastWrite → Option Held
+abbrev held_of : Option LastWrite → Option Versioned
 held_of None = None
 held_of (Some w) = Some (record { num = w.num; body = w.body })
 
@@ -134,7 +135,7 @@ is_sent_as : (lines : List LogLine) (table : List Told) → ((op : ℕ) → IsRo
 is_sent_as lines table rows p i = sent_as (slice_index_or table p.op unheard).sent lines table p i.sent refl (rows p.op).sent i.first
 
 -- the last write after one more operation
-abbrev next_last : List LogLine → List ℕ → Option Held → Placed → Option Held
+abbrev next_last : List LogLine → List ℕ → Option Versioned → Placed → Option Versioned
 next_last lines q last p = if p.read then last else (if same_key q (key_of lines p.op) then Some (written_by lines p) else last)
 
 held_if : (b : Bool) (w : LastWrite) (o : Option LastWrite) → held_of (if b then Some w else o) ≡ (if b then Some (record { num = w.num; body = w.body }) else held_of o)
@@ -160,7 +161,7 @@ found_after : (lines : List LogLine) (table : List Told) (es : List Entry) (ps :
 found_after lines table es [] q h = refl
 found_after lines table es (p ∷ ps) q h =
     found_after lines table (entries_with table es p) ps q (λ x a. h x (inr a))
-    ∙ ap (λ (o : Option Held). last_write lines q o ps) (next_found lines table es p q (h p (inl refl)) p.read)
+    ∙ ap (λ (o : Option Versioned). last_write lines q o ps) (next_found lines table es p q (h p (inl refl)) p.read)
 
 -- ---- the records of the entries
 
@@ -180,10 +181,10 @@ record_found (e ∷ es) h r (inr a) =
     let l : cmp e.0 r.key ≡ Less = each_among (IsKeyBefore (record_of e)) (map record_of es) (each_record e es h.0) r a in
     ap held_of (other_if r.key e.0 (Some e.1) (found r.key es) (λ z. apart e.0 r.key l (sym z))) ∙ record_found es h.1 r a
 
-abbrev with_held : List ℕ → Held → Record
+abbrev with_held : List ℕ → Versioned → Record
 with_held key held = record { key = key; num = held.num; body = held.body }
 
-same_record : (a b : List ℕ) (x y : Held) → a ≡ b → x ≡ y → with_held a x ≡ with_held b y
+same_record : (a b : List ℕ) (x y : Versioned) → a ≡ b → x ≡ y → with_held a x ≡ with_held b y
 same_record a b x y e f = cc
 
 found_record : (es : List Entry) (r : Record) → held_of (found r.key es) ≡ Some (held_in r) → Among r (map record_of es)

@@ -1,4 +1,5 @@
 -- From facts on pairs of places to the walk over the history with a map.
+use Rattle.far_base.specs.declared.record.Versioned.{Versioned}
 use Rattle.std.proofs.Common.{◌≡◌, ℕ, ◌<◌, ◌≤◌, ◌⊎◌, inl, inr, Bool, true, false, true≢false, leb, List, [], ◌∷◌, refl, sym, ap, ◌∙◌, subst, arith}
 use Rattle.std.specs.Prelude.{if◌then◌else◌}
 use Rattle.std.specs.Bool.{MatchBool}
@@ -7,7 +8,7 @@ use Rattle.far_base.specs.declared.log.LogLine.{LogLine}
 use Rattle.far_base.specs.declared.log.Placed.{Placed}
 use Rattle.far_model.specs.Members.{Among, Pairs}
 use Rattle.far_model.specs.Log.{same_key}
-use Rattle.far_model.specs.History.{Before, Held, nothing, key_of, written_by, read_by, with_write, IsLegalFrom}
+use Rattle.far_model.specs.History.{Before, nothing, key_of, written_by, read_by, with_write, IsLegalFrom}
 use Rattle.far_model.proofs.Members.{each_among}
 use Rattle.far_laws.proofs.Exposed.{same_key_true, same_key_refl}
 
@@ -36,7 +37,7 @@ pub record Fits (log : List LogLine) (D : Placed → Type 0) : Type 0 where
   pub one : (x y : Placed) → D x → D y → x.read ≡ false → y.read ≡ false → x.num ≡ y.num → written_by log x ≡ written_by log y
 
 -- a past write of the key that set it to this
-pub record SetBy (log : List LogLine) (Past : Placed → Type 0) (held : Held) (key : List ℕ) : Type 0 where
+pub record SetBy (log : List LogLine) (Past : Placed → Type 0) (held : Versioned) (key : List ℕ) : Type 0 where
   pub write : Placed
   pub past : Past write
   pub is_write : write.read ≡ false
@@ -44,13 +45,13 @@ pub record SetBy (log : List LogLine) (Past : Placed → Type 0) (held : Held) (
   pub same : held ≡ written_by log write
 
 -- what is held of a key is that of the greatest past write
-pub record Knows (log : List LogLine) (Past : Placed → Type 0) (held : Held) (key : List ℕ) : Type 0 where
+pub record Knows (log : List LogLine) (Past : Placed → Type 0) (held : Versioned) (key : List ℕ) : Type 0 where
   pub most : (x : Placed) → Past x → x.read ≡ false → key_of log x.op ≡ key → x.num ≤ held.num
   pub whose : (held ≡ nothing) ⊎ SetBy log Past held key
 
 module _ (log : List LogLine) (D : Placed → Type 0) (fits : Fits log D) where
   -- what a read sees is held, where the past is what stands before it
-  read_held : (Past : Placed → Type 0) (y : Placed) (held : Held) → ((x : Placed) → Past x → D x) → ((x : Placed) → Past x → Before x y) → ((x : Placed) → D x → x.read ≡ false → Before x y → Past x)
+  read_held : (Past : Placed → Type 0) (y : Placed) (held : Versioned) → ((x : Placed) → Past x → D x) → ((x : Placed) → Past x → Before x y) → ((x : Placed) → D x → x.read ≡ false → Before x y → Past x)
       → D y → y.read ≡ true → Knows log Past held (key_of log y.op) → read_by log y ≡ held
   read_held Past y held sound before complete d r knows = go (leb_tells 1 y.num) knows.whose
     where
@@ -65,17 +66,17 @@ module _ (log : List LogLine) (D : Placed → Type 0) (fits : Fits log D) where
           seen : Seen log D y → (held ≡ nothing) ⊎ SetBy log Past held (key_of log y.op) → read_by log y ≡ held
           seen w (inl e) =
               let past : Past w.write = complete w.write w.placed w.is_write w.before in
-              let none : held.num ≡ 0 = ap (λ (h : Held). h.num) e in
+              let none : held.num ≡ 0 = ap (λ (h : Versioned). h.num) e in
               absurd (omega (arith, none, knows.most w.write past w.is_write w.on_key, fits.positive w.write w.placed w.is_write))
           seen w (inr s) =
               let past : Past w.write = complete w.write w.placed w.is_write w.before in
-              let num : held.num ≡ s.write.num = ap (λ (h : Held). h.num) s.same in
-              let own : (read_by log y).num ≡ w.write.num = ap (λ (h : Held). h.num) w.same in
+              let num : held.num ≡ s.write.num = ap (λ (h : Versioned). h.num) s.same in
+              let own : (read_by log y).num ≡ w.write.num = ap (λ (h : Versioned). h.num) w.same in
               let alike : w.write.num ≡ s.write.num = omega (arith, num, own, fits.number y d r, knows.most w.write past w.is_write w.on_key, least s) in
               w.same ∙ fits.one w.write s.write w.placed (sound s.write s.past) w.is_write s.is_write alike ∙ sym s.same
 
   -- after a write the map holds the greatest past write of each key
-  write_known : (Past : Placed → Type 0) (p : Placed) (map : List ℕ → Held) → ((x : Placed) → Past x → D x) → ((x : Placed) → Past x → Before x p)
+  write_known : (Past : Placed → Type 0) (p : Placed) (map : List ℕ → Versioned) → ((x : Placed) → Past x → D x) → ((x : Placed) → Past x → Before x p)
       → D p → p.read ≡ false → ((key : List ℕ) → Knows log Past (map key) key) → (key : List ℕ) → Knows log (λ x. Past x ⊎ (x ≡ p)) (with_write map (key_of log p.op) (written_by log p) key) key
   write_known Past p map sound before d w knows key = go (same_key key (key_of log p.op)) refl
     where
@@ -101,7 +102,7 @@ module _ (log : List LogLine) (D : Placed → Type 0) (fits : Fits log D) where
           whose (inr s) = inr (record { write = s.write; past = inl s.past; is_write = s.is_write; on_key = s.on_key; same = s.same })
 
   -- after a read nothing changes
-  read_known : (Past : Placed → Type 0) (p : Placed) (held : Held) (key : List ℕ) → p.read ≡ true → Knows log Past held key → Knows log (λ x. Past x ⊎ (x ≡ p)) held key
+  read_known : (Past : Placed → Type 0) (p : Placed) (held : Versioned) (key : List ℕ) → p.read ≡ true → Knows log Past held key → Knows log (λ x. Past x ⊎ (x ≡ p)) held key
   read_known Past p held key r knows = record { most = most; whose = whose knows.whose }
     where
       most : (x : Placed) → Past x ⊎ (x ≡ p) → x.read ≡ false → key_of log x.op ≡ key → x.num ≤ held.num
@@ -112,7 +113,7 @@ module _ (log : List LogLine) (D : Placed → Type 0) (fits : Fits log D) where
       whose (inl k) = inl k
       whose (inr s) = inr (record { write = s.write; past = inl s.past; is_write = s.is_write; on_key = s.on_key; same = s.same })
 
-  pub walk : (Past : Placed → Type 0) (rest : List Placed) (map : List ℕ → Held) → ((x : Placed) → Past x → D x) → ((x : Placed) → Among x rest → D x) → ((x : Placed) → D x → Past x ⊎ Among x rest)
+  pub walk : (Past : Placed → Type 0) (rest : List Placed) (map : List ℕ → Versioned) → ((x : Placed) → Past x → D x) → ((x : Placed) → Among x rest → D x) → ((x : Placed) → D x → Past x ⊎ Among x rest)
       → ((x y : Placed) → Past x → Among y rest → Before x y) → Pairs Before rest → ((key : List ℕ) → Knows log Past (map key) key) → IsLegalFrom log map rest
   walk Past [] map sound there complete before ordered knows = tt
   walk Past (p ∷ ps) map sound there complete before ordered knows =

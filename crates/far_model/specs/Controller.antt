@@ -13,7 +13,7 @@ use Rattle.far_base.specs.declared.slot_state.SlotState.TheVariants.{Free, Admit
 use Rattle.far_base.specs.declared.slot_state.Due.TheVariants.{Peeked, Stored as StoredDue, Removed}
 use Rattle.far_model.specs.Evictions.{Eviction, Next, Send, Store as StoreNext, Done, Kept, is_free, is_held, has_key, holds_key, is_admitting, first_place, state_at, key_in, tag_in, victim, hand_after, begins_eviction, peek_of, after_peek, after_store, after_removal, waits_for, waits_job, storing, removing}
 use Rattle.far_model.specs.Parties.{Turn, idle, to_party}
-use Rattle.far_model.specs.Rounds.{Round, Telling, new_round, has_told, tells_one, telling_at, asks_tops, has_top, ready_counter}
+use Rattle.far_model.specs.Rounds.{Round, Telling, new_round, has_told, tells_one, telling_at, asks_tops, ready_counter}
 use Rattle.far_model.specs.Snapshots.{Job, SnapshotView, no_snapshot, new_job, has_part, has_begun, is_whole, completed, part_reads, view_items, view_records, with_part, with_same}
 use Rattle.far_model.specs.View.{server_of}
 
@@ -273,7 +273,7 @@ store_answered config c job (Some e) = if waits_job job e
 
 abbrev pub top_told : Config → ControllerState → ℕ → ℕ → ℕ → Option Round → Turn ControllerState
 top_told config c number server top None = idle c
-top_told config c number server top (Some r) = if nat_eq r.number number && (r.asked && (nat_lt server (length r.tops) && not (has_top (slice_index_or r.tops server None))))
+top_told config c number server top (Some r) = if nat_eq r.number number && (r.asked && (nat_lt server (length r.tops) && not (is_some (slice_index_or r.tops server None))))
     then record { state = record c { round = Some (record r { tops = slice_set r.tops server (Some top) }) }; out = []; notes = [] }
     else idle c
 

@@ -6,6 +6,7 @@ use Rattle.std.specs.Cmp.Lexicographic.{slice_cmp}
 use Rattle.std.specs.declared.cmp.Ordering.TheVariants.{Less}
 use Rattle.far_base.specs.declared.plan.OpLine.{OpLine}
 use Rattle.far_base.specs.declared.record.Record.{Record}
+use Rattle.far_base.specs.declared.record.Versioned.{Versioned}
 use Rattle.far_base.specs.declared.log.LogLine.{LogLine}
 use Rattle.far_base.specs.declared.log.Placed.{Placed}
 use Rattle.far_model.specs.Members.{Among, Pairs}
@@ -49,13 +50,8 @@ pub record IsHistory (log : List LogLine) (history : List Placed) : Type 0 where
   pub sound : (place : Placed) → Among place history → IsPlace log place
   pub complete : (place : Placed) → IsPlace log place → Among place history
 
--- the number and body that a map has for a key
-pub record Held : Type 0 where
-  pub num : ℕ
-  pub body : Option (List ℕ)
-
--- of a key that was never written
-abbrev pub nothing : Held
+-- what a map has for a key that was never written
+abbrev pub nothing : Versioned
 nothing = record { num = 0; body = None }
 
 abbrev pub line_key : Option (At OpLine) → List ℕ
@@ -66,7 +62,7 @@ abbrev pub line_body : Option (At OpLine) → Option (List ℕ)
 line_body None = None
 line_body (Some s) = s.what.body
 
-abbrev pub held_by : Option (At Answer) → Held
+abbrev pub held_by : Option (At Answer) → Versioned
 held_by None = nothing
 held_by (Some e) = record { num = e.what.num; body = e.what.body }
 
@@ -74,19 +70,19 @@ abbrev pub key_of : List LogLine → ℕ → List ℕ
 key_of log op = line_key (sending log op)
 
 -- what a write sets its key to: its own number and body
-abbrev pub written_by : List LogLine → Placed → Held
+abbrev pub written_by : List LogLine → Placed → Versioned
 written_by log place = record { num = place.num; body = line_body (sending log place.op) }
 
 -- what a read was answered with
-abbrev pub read_by : List LogLine → Placed → Held
+abbrev pub read_by : List LogLine → Placed → Versioned
 read_by log place = held_by (emission log place.op)
 
 -- the map after one write
-abbrev pub with_write : (List ℕ → Held) → List ℕ → Held → (List ℕ → Held)
+abbrev pub with_write : (List ℕ → Versioned) → List ℕ → Versioned → (List ℕ → Versioned)
 with_write map key held q = if same_key q key then held else map q
 
 -- each read of the list was answered with what the map then has for its key, and each write sets its key
-abbrev pub IsLegalFrom : List LogLine → (List ℕ → Held) → List Placed → Type 0
+abbrev pub IsLegalFrom : List LogLine → (List ℕ → Versioned) → List Placed → Type 0
 IsLegalFrom log map [] = Unit {0}
 IsLegalFrom log map (p ∷ ps) = MatchBool p.read
     ((read_by log p ≡ map (key_of log p.op)) × IsLegalFrom log map ps)
@@ -106,11 +102,11 @@ pub record IsLinearizable (log : List LogLine) (history : List Placed) : Type 0 
   pub in_time : KeepsRealTimeOrder log history
 
 -- the last write of the key
-abbrev pub last_write : List LogLine → List ℕ → Option Held → List Placed → Option Held
+abbrev pub last_write : List LogLine → List ℕ → Option Versioned → List Placed → Option Versioned
 last_write log key last [] = last
 last_write log key last (p ∷ ps) = last_write log key (if p.read then last else (if same_key key (key_of log p.op) then Some (written_by log p) else last)) ps
 
-abbrev pub held_in : Record → Held
+abbrev pub held_in : Record → Versioned
 held_in r = record { num = r.num; body = r.body }
 
 -- keys are ordered by their bytes

@@ -1,4 +1,5 @@
 -- What holds in every state of every run.
+use Rattle.far_base.specs.declared.record.Versioned.{Versioned}
 use Rattle.std.specs.Prelude.{◌≡◌, ◌≢◌, ℕ, ◌<◌, ◌≤◌, max, ◌⊎◌, Bool, true, false, ◌&&◌, nat_eq, if◌then◌else◌, List, [], ◌∷◌, length, Option, None, Some}
 use Rattle.std.specs.List.{count_by}
 use Rattle.far_base.specs.PlanView.{PlanView}
@@ -14,7 +15,6 @@ use Rattle.far_base.specs.declared.slot_state.SlotState.TheVariants.{Free, Admit
 use Rattle.far_model.specs.Clients.{line_of}
 use Rattle.far_model.specs.Coherent.{HasOwnNumber, IsAnswering, IsCoherent, WasSent}
 use Rattle.far_model.specs.Evictions.{state_at}
-use Rattle.far_model.specs.History.{Held}
 use Rattle.far_model.specs.KeyedRecords.{found}
 use Rattle.far_model.specs.Log.{exposed, is_read}
 use Rattle.far_model.specs.Members.{Among, Pairs}
@@ -30,7 +30,7 @@ abbrev pub ShowsAtMost : PlanView → List LogLine → List ℕ → ℕ → Type
 ShowsAtMost plan log key n = (at op num : ℕ) (body : Option (List ℕ)) (near : Bool) → Among (line_at at (Emitted op num body near)) log → (line_of plan.ops op).key ≡ key → num ≤ n
 
 -- what the server of a key has for it
-abbrev pub look : PlanView → State → List ℕ → Held
+abbrev pub look : PlanView → State → List ℕ → Versioned
 look plan s key = found (records_at s (server_of plan.config key)) key
 
 abbrev pub slot_if : SwitchView → Option ℕ → Option SlotView

@@ -1,4 +1,5 @@
 -- Lists of records with at most one of each key, in the order in which their keys first came.
+use Rattle.far_base.specs.declared.record.Versioned.{Versioned}
 use Rattle.std.specs.Prelude.{◌≡◌, ℕ, Bool, true, false, if◌then◌else◌, List, [], ◌∷◌, Option, None, Some}
 use Rattle.std.specs.Ordering.{nat_cmp}
 use Rattle.std.specs.declared.cmp.Ordering.{Ordering}
@@ -6,10 +7,10 @@ use Rattle.std.specs.declared.cmp.Ordering.TheVariants.{Less, Equal, Greater}
 use Rattle.std.specs.Cmp.Lexicographic.{slice_cmp}
 use Rattle.far_base.specs.declared.record.Record.{Record}
 use Rattle.far_model.specs.Log.{same_key}
-use Rattle.far_model.specs.History.{Held, nothing, held_in}
+use Rattle.far_model.specs.History.{nothing, held_in}
 
 -- what the list has for the key: number 0 and no body where it has nothing
-abbrev pub found : List Record → List ℕ → Held
+abbrev pub found : List Record → List ℕ → Versioned
 found [] key = nothing
 found (r ∷ rs) key = if same_key r.key key then held_in r else found rs key
 

@@ -44,9 +44,6 @@ telling_at r client = slice_index_or r.told client no_telling
 abbrev pub asks_tops : Round → Bool
 asks_tops r = not r.asked && (list_all has_told r.told && nat_eq r.stores 0)
 
-abbrev pub has_top : Option ℕ → Bool
-has_top top = is_some top
-
 abbrev pub greatest_top : List (Option ℕ) → ℕ
 greatest_top [] = 0
 greatest_top (None ∷ tops) = greatest_top tops
@@ -54,4 +51,4 @@ greatest_top (Some top ∷ tops) = max top (greatest_top tops)
 
 -- the new counter, once every client, every store and every server has answered
 abbrev pub ready_counter : Round → Option ℕ
-ready_counter r = if (r.asked && list_all has_top r.tops) && (list_all has_told r.told && nat_eq r.stores 0) then Some (greatest_top r.tops) else None
+ready_counter r = if (r.asked && list_all is_some r.tops) && (list_all has_told r.told && nat_eq r.stores 0) then Some (greatest_top r.tops) else None

@@ -1,14 +1,14 @@
 -- The rules of a server.
+use Rattle.far_base.specs.declared.record.Versioned.{Versioned}
 use Rattle.std.specs.Prelude.{◌≡◌, ℕ, max, Bool, nat_lt, if◌then◌else◌, List, [], ◌∷◌, Option, None, Some}
 use Rattle.far_base.specs.declared.packet.Packet.{Packet}
 use Rattle.far_base.specs.declared.packet.Packet.TheVariants.{GetReq, WriteReq, GetFwd, WriteFwd, GetRep, WriteRep, GetAns, WriteAns, Hot, Admit, AdmitAck, Peek, PeekAns, Remove, RemoveAns, SnapStart, SnapBegun, SnapRead, SnapPart, Store, Stored, Release, Ask, Told, TopAsk, TopIs}
 use Rattle.far_base.specs.declared.record.Record.{Record}
-use Rattle.far_model.specs.History.{Held}
 use Rattle.far_model.specs.KeyedRecords.{found, put_record}
 
--- the record is kept where its number is greater
-abbrev pub kept : List Record → Record → List Record
-kept records r = if nat_lt (found records r.key).num r.num then put_record r records else records
+-- the records once this one has come: it is kept where its number is greater
+abbrev pub stored : List Record → Record → List Record
+stored records r = if nat_lt (found records r.key).num r.num then put_record r records else records
 
 -- the greatest number that the server has, or 0
 abbrev pub top_of : List Record → ℕ
@@ -20,20 +20,20 @@ record_of key num body = record { key = key; num = num; body = body }
 
 -- what a packet makes of the records of its server
 abbrev pub server_keeps : List Record → Packet → List Record
-server_keeps records (WriteFwd caller op key num body) = kept records (record_of key num body)
-server_keeps records (Store job item) = kept records item
+server_keeps records (WriteFwd caller op key num body) = stored records (record_of key num body)
+server_keeps records (Store job item) = stored records item
 server_keeps records _ = records
 
-abbrev pub get_reply : ℕ → ℕ → List ℕ → ℕ → Held → Packet
+abbrev pub get_reply : ℕ → ℕ → List ℕ → ℕ → Versioned → Packet
 get_reply caller op key tag h = GetRep caller op key tag h.num h.body
 
-abbrev pub write_reply : ℕ → ℕ → List ℕ → Held → Packet
+abbrev pub write_reply : ℕ → ℕ → List ℕ → Versioned → Packet
 write_reply caller op key h = WriteRep caller op key h.num h.body
 
 -- what a server answers; a packet of a kind that does not go to a server has no answer
 abbrev pub server_reply : ℕ → List Record → Packet → Option Packet
 server_reply server records (GetFwd caller op key tag) = Some (get_reply caller op key tag (found records key))
-server_reply server records (WriteFwd caller op key num body) = Some (write_reply caller op key (found (kept records (record_of key num body)) key))
+server_reply server records (WriteFwd caller op key num body) = Some (write_reply caller op key (found (stored records (record_of key num body)) key))
 server_reply server records (Store job item) = Some (Stored job)
 server_reply server records (TopAsk round) = Some (TopIs round server (top_of records))
 server_reply server records _ = None

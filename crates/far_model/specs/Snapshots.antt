@@ -29,16 +29,12 @@ no_snapshot = record { id = 0; point = 0; views = [] }
 abbrev pub new_job : ℕ → ℕ → Job
 new_job id slots = record { id = id; begun = None; parts = replicate slots None; sames = 0 }
 
--- whether a slot's part has come
-abbrev pub has_come : Option (Option Record) → Bool
-has_come part = is_some part
-
 abbrev pub has_begun : Job → Bool
 has_begun job = is_some job.begun
 
 -- whether slot i is there and has a part
 abbrev pub has_part : Job → ℕ → Bool
-has_part job i = has_come (slice_index_or job.parts i None)
+has_part job i = is_some (slice_index_or job.parts i None)
 
 -- the part of slot i has come
 abbrev pub with_part : Job → ℕ → Option Record → Job
@@ -50,7 +46,7 @@ with_same job i view = record (with_part job i view) { sames = job.sames + 1 }
 
 -- begun, and every part there
 abbrev pub is_whole : Job → Bool
-is_whole job = has_begun job && list_all has_come job.parts
+is_whole job = has_begun job && list_all is_some job.parts
 
 abbrev pub view_in : Option (Option Record) → Option Record
 view_in None = None
@@ -66,7 +62,7 @@ completed job = record { id = job.id; point = number_or_none job.begun; views = 
 -- a read of each slot from i on that has no part
 abbrev pub part_reads : ℕ → ℕ → ℕ → List (Option (Option Record)) → List Out
 part_reads epoch id i [] = []
-part_reads epoch id i (part ∷ parts) = if has_come part then part_reads epoch id (suc i) parts else to_party Switch (SnapRead epoch id i) ∷ part_reads epoch id (suc i) parts
+part_reads epoch id i (part ∷ parts) = if is_some part then part_reads epoch id (suc i) parts else to_party Switch (SnapRead epoch id i) ∷ part_reads epoch id (suc i) parts
 
 -- the records of the views that are there, from slot i on
 abbrev pub view_items : ℕ → List (Option Record) → List LogEntry

@@ -108,13 +108,13 @@ unbound key b = if is_key_there key b then None else b
 abbrev pub bind_key : List ℕ → ℕ → List (Option (List ℕ)) → List (Option (List ℕ))
 bind_key key i bound = slice_set (map (unbound key) bound) i (Some key)
 
-abbrev pub record_of : Option (List ℕ) → ℕ → Option (List ℕ) → Option Record
-record_of None num body = None
-record_of (Some key) num body = Some (record { key = key; num = num; body = body })
+abbrev pub keyed_record : Option (List ℕ) → ℕ → Option (List ℕ) → Option Record
+keyed_record None num body = None
+keyed_record (Some key) num body = Some (record { key = key; num = num; body = body })
 
 -- the record that a slot holds: of a latest slot alone
 abbrev pub held_record : SlotView → Option Record
-held_record slot = if slot.latest then record_of slot.key slot.num slot.body else None
+held_record slot = if slot.latest then keyed_record slot.key slot.num slot.body else None
 
 -- an outdated slot shows no body
 abbrev pub shown_body : SlotView → Option (List ℕ)

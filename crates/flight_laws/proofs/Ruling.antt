@@ -13,8 +13,8 @@ use Rattle.far_model.specs.Controller.{ControllerState, to_clients, to_servers, 
 use Rattle.far_model.specs.Evictions.{Eviction, Send, Store as StoreNext, Kept, is_free, has_key, holds_key, is_admitting, first_place, state_at, victim, after_peek, after_removal, waits_for, waits_job, TRIES, shown_item, hand_after}
 use Rattle.far_model.specs.Members.{Each}
 use Rattle.far_model.specs.Parties.{Turn, idle, to_party}
-use Rattle.far_model.specs.Rounds.{Round, asks_tops, has_told, telling_at, has_top}
-use Rattle.far_model.specs.Snapshots.{Job, has_begun, has_come, has_part, is_whole, with_same, completed, part_reads}
+use Rattle.far_model.specs.Rounds.{Round, asks_tops, has_told, telling_at}
+use Rattle.far_model.specs.Snapshots.{Job, has_begun, has_part, is_whole, with_same, completed, part_reads}
 use Rattle.flight_laws.proofs.Lists.{by_test}
 use Rattle.flight_laws.proofs.Sends.{IsControl}
 
@@ -46,7 +46,7 @@ module _ (config : Config) where
 
   reads_control : (epoch id i : ℕ) (parts : List (Option (Option Record))) → Each (IsControl config Controller) (part_reads epoch id i parts)
   reads_control epoch id i [] = tt
-  reads_control epoch id i (part ∷ parts) = by_test (Each (IsControl config Controller)) (has_come part) (part_reads epoch id (suc i) parts) (to_party Switch (SnapRead epoch id i) ∷ part_reads epoch id (suc i) parts)
+  reads_control epoch id i (part ∷ parts) = by_test (Each (IsControl config Controller)) (is_some part) (part_reads epoch id (suc i) parts) (to_party Switch (SnapRead epoch id i) ∷ part_reads epoch id (suc i) parts)
       (reads_control epoch id (suc i) parts) (record { apart = refl; travels = record { source = refl; target = refl } }, reads_control epoch id (suc i) parts)
 
   -- ---- wants and evictions
@@ -183,7 +183,7 @@ module _ (config : Config) where
 
   top_rules : (c : ControllerState) (number server top : ℕ) (o : Option Round) → Rules config (top_told config c number server top o)
   top_rules c number server top None = idle_rules c
-  top_rules c number server top (Some r) = by_test (Rules config) (nat_eq r.number number && (r.asked && (nat_lt server (length r.tops) && not (has_top (slice_index_or r.tops server None))))) _ (idle c) (record { out = tt }) (idle_rules c)
+  top_rules c number server top (Some r) = by_test (Rules config) (nat_eq r.number number && (r.asked && (nat_lt server (length r.tops) && not (is_some (slice_index_or r.tops server None))))) _ (idle c) (record { out = tt }) (idle_rules c)
 
   -- ---- packets
 

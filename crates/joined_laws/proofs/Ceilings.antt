@@ -19,7 +19,7 @@ use Rattle.far_model.specs.KeyedRecords.{found}
 use Rattle.far_model.specs.Members.{Among}
 use Rattle.far_model.specs.Parties.{Turn}
 use Rattle.far_model.specs.Runs.{IsRun, run}
-use Rattle.far_model.specs.Servers.{kept, record_of, server_keeps, server_reply, top_of}
+use Rattle.far_model.specs.Servers.{record_of, server_keeps, server_reply, top_of, stored}
 use Rattle.far_model.specs.State.{State, opening, records_at}
 use Rattle.far_model.proofs.Members.{among_append, each_from_among}
 use Rattle.flight_laws.proofs.Lists.{get_or-replicate_default}
@@ -47,7 +47,7 @@ top_within ceiling (r ∷ rs) h = let a = h r (inl refl) in let b = top_within c
 found_within : (ceiling : ℕ) (rs : List Record) (key : List ℕ) → ((r : Record) → Among r rs → r.num ≤ ceiling) → (found rs key).num ≤ ceiling
 found_within ceiling rs key h = le_trans (found_below rs key) (top_within ceiling rs h)
 
-kept_within : (ceiling : ℕ) (rs : List Record) (r : Record) → ((x : Record) → Among x rs → x.num ≤ ceiling) → (x : Record) → Among x (kept rs r) → x.num ≤ max ceiling r.num
+kept_within : (ceiling : ℕ) (rs : List Record) (r : Record) → ((x : Record) → Among x rs → x.num ≤ ceiling) → (x : Record) → Among x (stored rs r) → x.num ≤ max ceiling r.num
 kept_within ceiling rs r h x a = go (kept_among rs r x a)
   where
     go : ((x ≡ r) × (0 < r.num)) ⊎ Among x rs → x.num ≤ max ceiling r.num
@@ -61,7 +61,7 @@ keeps_within ceiling rs p h x a = let k = h x a in omega (arith, k)
 
 reply_within : (ceiling n : ℕ) (rs : List Record) (p : Packet) → ((x : Record) → Among x rs → x.num ≤ ceiling) → ReplyWithin (max ceiling (put_number p)) (server_reply n rs p)
 reply_within ceiling n rs (GetFwd caller op key tag) h = let k = found_within ceiling rs key h in omega (arith, k)
-reply_within ceiling n rs (WriteFwd caller op key num body) h = found_within (max ceiling num) (kept rs (record_of key num body)) key (kept_within ceiling rs (record_of key num body) h)
+reply_within ceiling n rs (WriteFwd caller op key num body) h = found_within (max ceiling num) (stored rs (record_of key num body)) key (kept_within ceiling rs (record_of key num body) h)
 reply_within ceiling n rs (Store job item) h = omega arith
 reply_within ceiling n rs (TopAsk round) h = let k = top_within ceiling rs h in omega (arith, k)
 reply_within ceiling n rs _ h = tt

@@ -29,7 +29,7 @@ use Rattle.far_model.specs.Invariants.{IsWritten}
 use Rattle.far_model.specs.Members.{Among}
 use Rattle.far_model.specs.Parties.{Turn, idle, messages_from, to_party}
 use Rattle.far_model.specs.Pass.{Passed, pass, passed_out, pass_notes, dropped, changes, with_slot, with_taken, changed_view, read_passes, absorbing, takes_reply, raised, reply_passes, is_slot_there, admits, peeks, may_go, removed_answer, removes, starts_snapshot, reads_part, part_of, sent_to}
-use Rattle.far_model.specs.Rounds.{Round, has_told, has_top, asks_tops, telling_at, greatest_top}
+use Rattle.far_model.specs.Rounds.{Round, has_told, asks_tops, telling_at, greatest_top}
 use Rattle.far_model.specs.Servers.{server_reply, top_of}
 use Rattle.far_model.specs.Snapshots.{Job, has_begun, has_part, is_whole, completed, part_reads, with_part, with_same}
 use Rattle.far_model.specs.State.{State, client_at, records_at, now}
@@ -163,7 +163,7 @@ module _ (P : ℕ → Type 0) (config : Config) where
 
   top_stay : (c : ControllerState) (number server top : ℕ) (o : Option Round) → P top → TopsAre P c.round → TopsAre P o → TopsAre P (top_told config c number server top o).state.round
   top_stay c number server top None p h k = h
-  top_stay c number server top (Some r) p h k = by_test (λ (t : Turn ControllerState). TopsAre P t.state.round) (nat_eq r.number number && (r.asked && (nat_lt server (length r.tops) && not (has_top (slice_index_or r.tops server None)))))
+  top_stay c number server top (Some r) p h k = by_test (λ (t : Turn ControllerState). TopsAre P t.state.round) (nat_eq r.number number && (r.asked && (nat_lt server (length r.tops) && not (is_some (slice_index_or r.tops server None)))))
       (record { state = record c { round = Some (record r { tops = slice_set r.tops server (Some top) }) }; out = []; notes = [] }) (idle c)
       (λ x is n y at. top_set r.tops server top n y p (λ m z q. k r refl m z q) (ap (λ (w : Round). slice_index_or w.tops n None) (same_Some (record r { tops = slice_set r.tops server (Some top) }) x is) ∙ at)) h
 

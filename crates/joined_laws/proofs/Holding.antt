@@ -29,7 +29,7 @@ use Rattle.far_model.specs.Past.{Past}
 use Rattle.far_model.specs.Rounds.{Round}
 use Rattle.far_model.specs.Snapshots.{Job, SnapshotView, no_snapshot, has_begun, has_part, is_whole, completed, view_records, with_part, with_same, part_reads}
 use Rattle.far_model.specs.State.{State, records_at, line_at}
-use Rattle.far_model.specs.View.{SlotView, slot_at, held_record, opening_view, entry_place, empty_slot, record_of}
+use Rattle.far_model.specs.View.{SlotView, slot_at, held_record, opening_view, entry_place, empty_slot, keyed_record}
 use Rattle.far_model.proofs.Members.{place_of}
 use Rattle.flight_laws.proofs.Handling.{IsInFlight}
 use Rattle.flight_laws.proofs.Lists.{get_or-replicate_default}
@@ -110,13 +110,13 @@ pub record IsHeld (slot : SlotView) (r : Record) : Type 0 where
 pub held_is : (slot : SlotView) (r : Record) → held_record slot ≡ Some r → IsHeld slot r
 held_is slot r e = go slot.latest refl e
   where
-    on : (k : Option (List ℕ)) → slot.key ≡ k → slot.latest ≡ true → record_of k slot.num slot.body ≡ Some r → IsHeld slot r
+    on : (k : Option (List ℕ)) → slot.key ≡ k → slot.latest ≡ true → keyed_record k slot.num slot.body ≡ Some r → IsHeld slot r
     on None k l q = absurd cc
     on (Some key) k l q =
         let same = same_Some (record { key = key; num = slot.num; body = slot.body }) r q in
         record { latest = l; key = k ∙ ap (λ (x : Record). Some x.key) same; num = ap (λ (x : Record). x.num) same; body = ap (λ (x : Record). x.body) same }
 
-    go : (b : Bool) → slot.latest ≡ b → (if b then record_of slot.key slot.num slot.body else None) ≡ Some r → IsHeld slot r
+    go : (b : Bool) → slot.latest ≡ b → (if b then keyed_record slot.key slot.num slot.body else None) ≡ Some r → IsHeld slot r
     go true l q = on slot.key refl l q
     go false l q = absurd cc
 

@@ -1,6 +1,6 @@
 -- Turns of the controller that send nothing of an operation and nothing of an admission.
 use Rattle.std.proofs.Common.{◌≡◌, ℕ, zero, suc, ◌+◌, ◌-◌, Bool, true, false, List, [], ◌∷◌, ◌++◌, refl, ap, ◌∙◌}
-use Rattle.std.specs.Prelude.{Option, Some, None, if◌then◌else◌, ◌&&◌, not, nat_eq, nat_le, nat_lt, length, slice_index_or, slice_set, slice_get}
+use Rattle.std.specs.Prelude.{Option, Some, None, if◌then◌else◌, ◌&&◌, not, nat_eq, nat_le, nat_lt, length, slice_index_or, slice_set, slice_get, is_some}
 use Rattle.far_base.specs.declared.log.LogEntry.TheVariants.{Admitted, Kept as KeptNote}
 use Rattle.far_base.specs.declared.packet.Message.{Message}
 use Rattle.far_base.specs.declared.packet.Out.{Out}
@@ -15,8 +15,8 @@ use Rattle.far_model.specs.Controller.{ControllerState, with_state, to_clients, 
 use Rattle.far_model.specs.Evictions.{Eviction, Next, Send, Store as StoreNext, Done, Kept, TRIES, after_peek, after_removal, after_store, is_admitting, key_in, removing, shown_item, state_at, waits_for, waits_job}
 use Rattle.far_model.specs.Members.{Each}
 use Rattle.far_model.specs.Parties.{Turn, idle, messages_from, to_party}
-use Rattle.far_model.specs.Rounds.{Round, has_told, has_top, asks_tops, telling_at}
-use Rattle.far_model.specs.Snapshots.{Job, has_begun, has_come, has_part, is_whole, completed, part_reads, view_items, with_part, with_same}
+use Rattle.far_model.specs.Rounds.{Round, has_told, asks_tops, telling_at}
+use Rattle.far_model.specs.Snapshots.{Job, has_begun, has_part, is_whole, completed, part_reads, view_items, with_part, with_same}
 use Rattle.far_model.proofs.Members.{among_map_from, each_among}
 use Rattle.flight_laws.proofs.Lists.{by_test}
 use Rattle.run_laws.proofs.Controls.{IsControlNote}
@@ -82,7 +82,7 @@ module _ (config : Config) where
 
   reads_steady : (epoch id i : ℕ) (parts : List (Option (Option Record))) → Each IsSteadyOut (part_reads epoch id i parts)
   reads_steady epoch id i [] = tt
-  reads_steady epoch id i (part ∷ parts) = by_test (Each IsSteadyOut) (has_come part) (part_reads epoch id (suc i) parts) (to_party Switch (SnapRead epoch id i) ∷ part_reads epoch id (suc i) parts)
+  reads_steady epoch id i (part ∷ parts) = by_test (Each IsSteadyOut) (is_some part) (part_reads epoch id (suc i) parts) (to_party Switch (SnapRead epoch id i) ∷ part_reads epoch id (suc i) parts)
       (reads_steady epoch id (suc i) parts) (refl, reads_steady epoch id (suc i) parts)
 
   releases_steady : (n more point : ℕ) → Each IsSteadyOut (to_clients n more (Release point))
@@ -149,7 +149,7 @@ module _ (config : Config) where
 
   top_steady : (c : ControllerState) (number server top : ℕ) (o : Option Round) → IsSteadyTurn c (top_told config c number server top o)
   top_steady c number server top None = idle_steady c
-  top_steady c number server top (Some r) = by_test (IsSteadyTurn c) (nat_eq r.number number && (r.asked && (nat_lt server (length r.tops) && not (has_top (slice_index_or r.tops server None)))))
+  top_steady c number server top (Some r) = by_test (IsSteadyTurn c) (nat_eq r.number number && (r.asked && (nat_lt server (length r.tops) && not (is_some (slice_index_or r.tops server None)))))
       (record { state = record c { round = Some (record r { tops = slice_set r.tops server (Some top) }) }; out = []; notes = [] }) (idle c)
       (record { out = tt; notes = tt; tags = refl }) (idle_steady c)
 

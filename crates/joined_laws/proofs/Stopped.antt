@@ -1,4 +1,6 @@
 -- Operations and numbers while the switch is stopped, at a stop, and at a restart.
+use Rattle.far_model.specs.Servers.{stored}
+use Rattle.far_base.specs.declared.record.Versioned.{Versioned}
 use Rattle.std.proofs.Common.{◌≡◌, ℕ, zero, suc, ◌+◌, ◌≤◌, ◌⊎◌, inl, inr, Bool, true, false, not, List, [], ◌∷◌, length, refl, sym, ap, ◌∙◌, subst, arith}
 use Rattle.std.specs.Prelude.{Option, Some, None, if◌then◌else◌, ◌||◌, is_some, slice_get, replicate}
 use Rattle.std.specs.List.{remove}
@@ -22,7 +24,6 @@ use Rattle.far_model.specs.Invariants.{IsWritten, ShowsAtMost, look, entry, reac
 use Rattle.far_model.specs.Members.{Among, Each}
 use Rattle.far_model.specs.Parties.{Turn, idle}
 use Rattle.far_model.specs.State.{State, client_at, records_at, line_at, now, noted}
-use Rattle.far_model.specs.Servers.{kept}
 use Rattle.far_model.specs.View.{SlotView, opening_view, server_of, entry_if, bound_place, next_place}
 use Rattle.far_model.proofs.Members.{among_at, among_append, among_remove}
 use Rattle.run_laws.proofs.Calm.{rest_taken, calm_keeps}
@@ -32,7 +33,6 @@ use Rattle.run_laws.proofs.Frame.{NotOn, member, off_shows_each, shown_lasts, Gr
 use Rattle.run_laws.proofs.Keeps.{AdmitsOther, IsDrawn, IsOpenOrAnswered, Relies, Keeps}
 use Rattle.run_laws.proofs.Snapshots.{release_calm}
 use Rattle.run_laws.proofs.Step.{next, NoteIs, IsNoSending, sent_before}
-use Rattle.far_model.specs.History.{Held}
 use Rattle.eviction_laws.specs.Evicting.{EvictionsAreSound}
 use Rattle.eviction_laws.proofs.Outside.{ask_calm, top_calm}
 use Rattle.eviction_laws.proofs.Rules.{slot_rests, rules_keep}
@@ -71,11 +71,11 @@ forgets_keep plan notes s t k c =
     (λ m a. inl (c.bag m a, λ caller op e n. n)) (record {
       servers = ap length c.servers ∙ k.servers;
       config = c.config;
-      records = λ key. subst (λ (w : Held). IsWritten plan t.log t.steps key w.num w.body) (sym (looks key)) (written_lasts plan Nobody notes s t g s.steps t.steps key _ _ (let e = c.steps in omega (arith, e)) (k.records key));
+      records = λ key. subst (λ (w : Versioned). IsWritten plan t.log t.steps key w.num w.body) (sym (looks key)) (written_lasts plan Nobody notes s t g s.steps t.steps key _ _ (let e = c.steps in omega (arith, e)) (k.records key));
       left = λ d. left_lasts plan Nobody notes s t g d (c.left d) (λ o a n. n) (k.left d);
       open_or_answered = λ at o h. waits_on o (k.open_or_answered at o (sent_before plan s t notes c.log (each_to IsControlNote IsNoSending notes note_sends c.notes_are) at o h));
       covers = λ runs key.
-          let same : reach plan t key ≡ (look plan s key).num = ap (reach_by (look plan t key).num) (c.none key) ∙ ap (λ (w : Held). w.num) (looks key) in
+          let same : reach plan t key ≡ (look plan s key).num = ap (reach_by (look plan t key).num) (c.none key) ∙ ap (λ (w : Versioned). w.num) (looks key) in
           subst (λ n. ShowsAtMost plan t.log key n) (sym same) (shown_lasts s t notes c.log plan key (look plan s key).num (c.current runs key) (off_shows_each plan key (look plan s key).num notes (off key)));
       slots = λ key slot is. absurd (none_some key slot is);
     })
@@ -98,7 +98,7 @@ forgets_keep plan notes s t k c =
       about = each_to IsControlNote (AboutMine Nobody) notes note_about c.notes_are;
       steps = c.steps;
       counted = λ at op num a h runs. c.counted runs at op num a;
-      more = λ key. subst (λ (w : Held). (look plan s key).num ≤ w.num) (sym (looks key)) (omega arith);
+      more = λ key. subst (λ (w : Versioned). (look plan s key).num ≤ w.num) (sym (looks key)) (omega arith);
       drawn = drawn;
       current = λ key tag n m d h b slot is old under. absurd (none_some key slot is);
     }
@@ -219,7 +219,7 @@ module _ (plan : PlanView) (s : State) (k : Keeps plan s) (v : EvictionsAreSound
         running = λ e. e;
         config = refl;
         counter = omega arith;
-        servers = length-set s.servers (server_of plan.config item.key) (kept (records_at s (server_of plan.config item.key)) item);
+        servers = length-set s.servers (server_of plan.config item.key) (stored (records_at s (server_of plan.config item.key)) item);
         more = more_at plan s k.some_server k.servers item t refl;
         written = written_at plan s k.some_server k.servers item t refl k.records (v.packets _ (among_at _ s.bag i at)).written;
         waits = λ c. refl;

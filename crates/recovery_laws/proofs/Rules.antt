@@ -21,8 +21,8 @@ use Rattle.far_model.specs.Evictions.{Eviction, Send, Store as StoreNext, Done, 
 use Rattle.far_model.specs.Kept.{IsAtServer, Covers, IsInSnapshot}
 use Rattle.far_model.specs.Members.{Among, Each}
 use Rattle.far_model.specs.Parties.{Turn, idle, messages_from, to_party}
-use Rattle.far_model.specs.Rounds.{Round, has_told, has_top, asks_tops, telling_at}
-use Rattle.far_model.specs.Snapshots.{Job, has_begun, has_come, has_part, is_whole, completed, part_reads, view_items, view_records, with_part, with_same}
+use Rattle.far_model.specs.Rounds.{Round, has_told, asks_tops, telling_at}
+use Rattle.far_model.specs.Snapshots.{Job, has_begun, has_part, is_whole, completed, part_reads, view_items, view_records, with_part, with_same}
 use Rattle.far_model.specs.State.{State}
 use Rattle.far_model.proofs.Members.{among_map_from, each_among}
 use Rattle.flight_laws.proofs.Lists.{by_test}
@@ -268,7 +268,7 @@ module _ (P : Record → Type 0) (config : Config) where
 
   pub top_rule : (c : ControllerState) (number server top : ℕ) (o : Option Round) → IsRule P c (top_told config c number server top o) × ((top_told config c number server top o).state.last ≡ c.last)
   top_rule c number server top None = ((idle_calm P c).rule, refl)
-  top_rule c number server top (Some r) = by_test (λ (t : Turn ControllerState). IsRule P c t × (t.state.last ≡ c.last)) (nat_eq r.number number && (r.asked && (nat_lt server (length r.tops) && not (has_top (slice_index_or r.tops server None)))))
+  top_rule c number server top (Some r) = by_test (λ (t : Turn ControllerState). IsRule P c t × (t.state.last ≡ c.last)) (nat_eq r.number number && (r.asked && (nat_lt server (length r.tops) && not (is_some (slice_index_or r.tops server None)))))
       (record { state = record c { round = Some (record r { tops = slice_set r.tops server (Some top) }) }; out = []; notes = [] }) (idle c)
       (record { jobs = omega arith; rounds = omega arith; notes = tt; out = tt }, refl)
       ((idle_calm P c).rule, refl)
@@ -297,7 +297,7 @@ module _ (P : Record → Type 0) (config : Config) where
 
   reads_drawn : (d : ControllerState) (epoch id i : ℕ) (parts : List (Option (Option Record))) → Each (OutDrawn P d) (part_reads epoch id i parts)
   reads_drawn d epoch id i [] = tt
-  reads_drawn d epoch id i (part ∷ parts) = by_test (Each (OutDrawn P d)) (has_come part) (part_reads epoch id (suc i) parts) (to_party Switch (SnapRead epoch id i) ∷ part_reads epoch id (suc i) parts)
+  reads_drawn d epoch id i (part ∷ parts) = by_test (Each (OutDrawn P d)) (is_some part) (part_reads epoch id (suc i) parts) (to_party Switch (SnapRead epoch id i) ∷ part_reads epoch id (suc i) parts)
       (reads_drawn d epoch id (suc i) parts) ((tt, tt, tt), reads_drawn d epoch id (suc i) parts)
 
   releases_drawn : (d : ControllerState) (n more point : ℕ) → Each (OutDrawn P d) (to_clients n more (Release point))

@@ -1,4 +1,5 @@
 -- Steps that touch no operation: they keep everything where slots, servers and clients have what they had.
+use Rattle.far_base.specs.declared.record.Versioned.{Versioned}
 use Rattle.std.proofs.Common.{◌≡◌, ℕ, ◌≤◌, max, ◌⊎◌, inl, inr, true, false, List, [], ◌∷◌, length, sym, ap, ◌∙◌, subst, arith}
 use Rattle.std.specs.Prelude.{Some}
 use Rattle.far_base.specs.PlanView.{PlanView}
@@ -7,7 +8,6 @@ use Rattle.far_base.specs.declared.log.LogEntry.TheVariants.{Sent, Numbered, Emi
 use Rattle.far_base.specs.declared.packet.Message.{Message}
 use Rattle.far_model.specs.Clients.{line_of}
 use Rattle.far_model.specs.Coherent.{Rises}
-use Rattle.far_model.specs.History.{Held}
 use Rattle.far_model.specs.Invariants.{ShowsAtMost, look, entry, reach, reach_by, IsWritten}
 use Rattle.far_model.specs.Members.{Among, Each, Pairs}
 use Rattle.far_model.specs.State.{State, client_at, now, noted}
@@ -114,7 +114,7 @@ controls_keep plan notes s t k c settles =
     (λ m a. message m (c.bag m a)) (record {
       servers = ap length c.servers ∙ k.servers;
       config = c.config ∙ k.config;
-      records = λ key. subst (λ (w : Held). IsWritten plan t.log t.steps key w.num w.body) (sym (looks key)) (written_lasts plan Nobody notes s t g s.steps t.steps key _ _ (let e = c.steps in omega (arith, e)) (k.records key));
+      records = λ key. subst (λ (w : Versioned). IsWritten plan t.log t.steps key w.num w.body) (sym (looks key)) (written_lasts plan Nobody notes s t g s.steps t.steps key _ _ (let e = c.steps in omega (arith, e)) (k.records key));
       left = λ d. left_lasts plan Nobody notes s t g d (c.left d) (λ o a n. n) (k.left d);
       open_or_answered = λ at o h. waits_on o (k.open_or_answered at o (sent_before plan s t notes c.log (each_to IsControlNote IsNoSending notes note_sends c.notes_are) at o h));
       covers = λ runs key. covers key (k.covers (c.running runs) key);
@@ -136,7 +136,7 @@ controls_keep plan notes s t k c settles =
       about = each_to IsControlNote (AboutMine Nobody) notes note_about c.notes_are;
       steps = c.steps;
       counted = counted_on s t c.running c.counter;
-      more = λ key. subst (λ (w : Held). (look plan s key).num ≤ w.num) (sym (looks key)) (omega arith);
+      more = λ key. subst (λ (w : Versioned). (look plan s key).num ≤ w.num) (sym (looks key)) (omega arith);
       drawn = drawn_on plan notes s t c;
       current = λ key tag n m d h b slot is old under. shown_within plan t.log key (max n slot.num) (max m slot.num)
           (shown_lasts s t notes c.log plan key (max n slot.num) (h slot ((settles key).current tag slot d is old under) old under) (off_shows_each plan key (max n slot.num) notes (off key))) (omega (arith, b));
@@ -148,7 +148,7 @@ controls_keep plan notes s t k c settles =
 
     covers : (key : List ℕ) → ShowsAtMost plan s.log key (reach plan s key) → ShowsAtMost plan t.log key (reach plan t key)
     covers key h =
-        let same : reach plan t key ≡ reach plan s key = (settles key).reach (look plan t key).num ∙ ap (λ (w : Held). reach_by w.num (entry key s.switch)) (looks key) in
+        let same : reach plan t key ≡ reach plan s key = (settles key).reach (look plan t key).num ∙ ap (λ (w : Versioned). reach_by w.num (entry key s.switch)) (looks key) in
         subst (λ n. ShowsAtMost plan t.log key n) (sym same) (shown_lasts s t notes c.log plan key (reach plan s key) h (off_shows_each plan key (reach plan s key) notes (off key)))
 
     waits_on : (o : ℕ) → IsOpenOrAnswered plan s o → IsOpenOrAnswered plan t o

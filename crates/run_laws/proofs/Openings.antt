@@ -1,11 +1,12 @@
 -- The opening state keeps everything.
+use Rattle.far_base.specs.declared.record.Versioned.{Versioned}
 use Rattle.std.proofs.Common.{◌≡◌, ◌≢◌, ℕ, zero, suc, ◌+◌, ◌-◌, ◌⊎◌, inl, inr, Bool, true, false, List, [], ◌∷◌, length, replicate, get_or, refl, sym, ap, ◌∙◌, subst, arith, eqb-true}
 use Rattle.std.specs.Prelude.{Some, None, if◌then◌else◌, nat_eq}
 use Rattle.far_base.specs.Limits.{IsPlan}
 use Rattle.far_base.specs.PlanView.{PlanView}
 use Rattle.far_base.specs.declared.plan.OpLine.{OpLine}
 use Rattle.far_model.specs.Clients.{ClientState, no_line, script, script_from, opening_client}
-use Rattle.far_model.specs.History.{Held, nothing}
+use Rattle.far_model.specs.History.{nothing}
 use Rattle.far_model.specs.Invariants.{look, entry, slot_if, IsWritten}
 use Rattle.far_model.specs.KeyedRecords.{found}
 use Rattle.far_model.specs.Members.{Among, Pairs}
@@ -99,7 +100,7 @@ module _ (plan : PlanView) where
     order = tt;
     lines = λ l a. absurd a;
     relies = λ m a. absurd a;
-    records = λ key. subst (λ (w : Held). IsWritten plan [] 0 key w.num w.body) (sym (no_records plan key)) (record { none = λ z. refl; some = λ more. absurd (omega arith) });
+    records = λ key. subst (λ (w : Versioned). IsWritten plan [] 0 key w.num w.body) (sym (no_records plan key)) (record { none = λ z. refl; some = λ more. absurd (omega arith) });
     left = opening_left;
     open_or_answered = λ at op a. absurd a;
     covers = λ runs key at op num body near a. absurd a;

@@ -15,7 +15,7 @@ use Rattle.far_model.specs.Members.{Among, Each}
 use Rattle.far_model.specs.Parties.{Turn, idle, messages_from, to_party}
 use Rattle.far_model.specs.Pass.{Passed, pass, dropped, starts_snapshot, reads_part, with_taken, part_of, is_slot_there, passed_out, pass_notes, is_as_before, emitted_note}
 use Rattle.far_model.specs.Passes.{with_pass}
-use Rattle.far_model.specs.Snapshots.{Job, has_begun, has_come, has_part, is_whole, completed, part_reads, view_items, with_same}
+use Rattle.far_model.specs.Snapshots.{Job, has_begun, has_part, is_whole, completed, part_reads, view_items, with_same}
 use Rattle.far_model.specs.State.{State, client_at, nobody}
 use Rattle.far_model.specs.View.{is_taken, held_record, slot_at}
 use Rattle.far_model.proofs.Members.{among_map_from, each_among}
@@ -71,7 +71,7 @@ start_calm c = record { epoch = refl; states = refl; tags = refl; plain = (by_te
 
 reads_plain : (epoch id i : ℕ) (parts : List (Option (Option Record))) → Each IsPlainOut (part_reads epoch id i parts)
 reads_plain epoch id i [] = tt
-reads_plain epoch id i (part ∷ parts) = by_test (Each IsPlainOut) (has_come part) (part_reads epoch id (suc i) parts) (to_party Switch (SnapRead epoch id i) ∷ part_reads epoch id (suc i) parts)
+reads_plain epoch id i (part ∷ parts) = by_test (Each IsPlainOut) (is_some part) (part_reads epoch id (suc i) parts) (to_party Switch (SnapRead epoch id i) ∷ part_reads epoch id (suc i) parts)
     (reads_plain epoch id (suc i) parts) (refl, reads_plain epoch id (suc i) parts)
 
 released_plain : (n more point : ℕ) → Each IsPlainOut (to_clients n more (Release point))

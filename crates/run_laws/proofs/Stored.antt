@@ -1,4 +1,5 @@
 -- Forwards at servers: records only get greater numbers, and replies say what is there.
+use Rattle.far_base.specs.declared.record.Versioned.{Versioned}
 use Rattle.std.proofs.Common.{◌≡◌, ◌≢◌, ℕ, ◌<◌, ◌≤◌, max, ◌⊎◌, inl, inr, Bool, true, false, List, [], ◌∷◌, ◌++◌, length, refl, sym, ap, ◌∙◌, subst, arith, le_trans, ltb-true, ltb-false}
 use Rattle.std.specs.Prelude.{Option, Some, None, if◌then◌else◌, nat_lt, get_or, set, sum, ◌%◌}
 use Rattle.std.proofs.lemmas.Bool.Decides.{eqb_tells}
@@ -10,12 +11,12 @@ use Rattle.far_base.specs.declared.packet.Packet.TheVariants.{GetFwd, WriteFwd, 
 use Rattle.far_base.specs.declared.party.Party.TheVariants.{Switch, Server}
 use Rattle.far_base.specs.declared.record.Record.{Record}
 use Rattle.far_model.specs.Events.{server_turn}
-use Rattle.far_model.specs.History.{Held, nothing, held_in}
+use Rattle.far_model.specs.History.{nothing, held_in}
 use Rattle.far_model.specs.Invariants.{look, entry, reach, reach_by, IsWritten}
 use Rattle.far_model.specs.KeyedRecords.{found, put_record}
 use Rattle.far_model.specs.Log.{same_key}
 use Rattle.far_model.specs.Members.{Among}
-use Rattle.far_model.specs.Servers.{kept, record_of, server_reply}
+use Rattle.far_model.specs.Servers.{record_of, server_reply, stored}
 use Rattle.far_model.specs.State.{State, client_at, records_at, now, stepped}
 use Rattle.far_model.specs.View.{SlotView, server_of}
 use Rattle.far_model.proofs.Members.{among_append}
@@ -52,10 +53,10 @@ found_put_other r (x ∷ xs) other ne = go (found_put_other r xs other ne) (same
         ∙ sym (ap (λ b. if b then held_in x else found xs other) (same_key_false x.key other (λ q. ne (sym q ∙ same_key_true x.key r.key e))))
     go h false e = ap (λ n. if same_key x.key other then held_in x else n) h
 
--- what a server has for the record's key once it has kept it or not: the record, or what it had, with no smaller number
+-- what a server has for the record's key once it has stored it or not: the record, or what it had, with no smaller number
 pub data AfterKeep (records : List Record) (r : Record) : Type 0 where
-  IsPut : found (kept records r) r.key ≡ held_in r → (found records r.key).num < r.num → AfterKeep records r
-  IsLeft : found (kept records r) r.key ≡ found records r.key → r.num ≤ (found records r.key).num → AfterKeep records r
+  IsPut : found (stored records r) r.key ≡ held_in r → (found records r.key).num < r.num → AfterKeep records r
+  IsLeft : found (stored records r) r.key ≡ found records r.key → r.num ≤ (found records r.key).num → AfterKeep records r
 
 pub after_keep : (records : List Record) (r : Record) → AfterKeep records r
 after_keep records r = go (nat_lt (found records r.key).num r.num) refl
@@ -64,7 +65,7 @@ after_keep records r = go (nat_lt (found records r.key).num r.num) refl
     go true e = IsPut (ap (λ b. found (if b then put_record r records else records) r.key) e ∙ found_put r records) (ltb-true _ _ e)
     go false e = IsLeft (ap (λ b. found (if b then put_record r records else records) r.key) e) (ltb-false _ _ e)
 
-pub kept_other : (records : List Record) (r : Record) (other : List ℕ) → other ≢ r.key → found (kept records r) other ≡ found records other
+pub kept_other : (records : List Record) (r : Record) (other : List ℕ) → other ≢ r.key → found (stored records r) other ≡ found records other
 kept_other records r other ne = go (nat_lt (found records r.key).num r.num)
   where
     go : (b : Bool) → found (if b then put_record r records else records) other ≡ found records other
@@ -152,8 +153,8 @@ module _ (plan : PlanView) (s : State) (k : Keeps plan s) (rest : List Message) 
       let same : set s.servers its_server its_records ≡ s.servers = set-get_or s.servers its_server [] in
       let looks : (other : List ℕ) → look plan t other ≡ look plan s other = (λ other. ap (λ l. found (get_or l (server_of plan.config other) []) other) same) in
       served_keeps plan op s rest (set s.servers its_server its_records) reply k (ap length same)
-      (λ other. subst (λ n. (look plan s other).num ≤ n) (sym (ap (λ (w : Held). w.num) (looks other))) (omega arith))
-      (λ other. subst (λ (w : Held). IsWritten plan s.log s.steps other w.num w.body) (sym (looks other)) (k.records other))
+      (λ other. subst (λ n. (look plan s other).num ≤ n) (sym (ap (λ (w : Versioned). w.num) (looks other))) (omega arith))
+      (λ other. subst (λ (w : Versioned). IsWritten plan s.log s.steps other w.num w.body) (sym (looks other)) (k.records other))
       others (left_unsent h.serves) (λ t. tt)
       (λ g records. record {
         serves = serves_lasts plan (Its op) [] s t g caller op key (absent_lasts s t [] refl (AnswersOp op) h.serves.unanswered tt) h.serves;
@@ -174,21 +175,21 @@ module _ (plan : PlanView) (s : State) (k : Keeps plan s) (rest : List Message) 
         write = h.write;
         unemitted = absent_lasts s t [] refl (EmitsOp op) h.unemitted tt;
         own = record { own = num; numbered_at = h.own.numbered_at; numbered = member s t [] refl _ h.own.numbered; before = le_trans h.own.before (past plan (Its op) [] s t g); within = least };
-        known = subst (λ (w : Held). (found stored key).num ≤ w.num) (sym its_look) (omega arith);
-        written = subst (λ (w : Held). IsWritten plan t.log t.steps key w.num w.body) its_look (records key);
+        known = subst (λ (w : Versioned). (found stored key).num ≤ w.num) (sym its_look) (omega arith);
+        written = subst (λ (w : Versioned). IsWritten plan t.log t.steps key w.num w.body) its_look (records key);
       })
     where
       r : Record
       r = record_of key num body
 
       stored : List Record
-      stored = kept its_records (record_of key num body)
+      stored = stored its_records (record_of key num body)
 
       reply : Message
-      reply = record { from = Server its_server; to = Switch; packet = WriteRep caller op key (found (kept its_records (record_of key num body)) key).num (found (kept its_records (record_of key num body)) key).body }
+      reply = record { from = Server its_server; to = Switch; packet = WriteRep caller op key (found (stored its_records (record_of key num body)) key).num (found (stored its_records (record_of key num body)) key).body }
 
       t : State
-      t = served plan op s rest (set s.servers its_server (kept its_records (record_of key num body))) reply
+      t = served plan op s rest (set s.servers its_server (stored its_records (record_of key num body))) reply
 
       same_length : length (set s.servers its_server stored) ≡ length s.servers
       same_length = length-set s.servers its_server stored
@@ -209,31 +210,31 @@ module _ (plan : PlanView) (s : State) (k : Keeps plan s) (rest : List Message) 
       least = go (after_keep its_records r)
         where
           go : AfterKeep its_records r → num ≤ (found stored key).num
-          go (IsPut e above) = let n = ap (λ (w : Held). w.num) e in omega (arith, n)
-          go (IsLeft e below) = let n = ap (λ (w : Held). w.num) e in omega (arith, n, below)
+          go (IsPut e above) = let n = ap (λ (w : Versioned). w.num) e in omega (arith, n)
+          go (IsLeft e below) = let n = ap (λ (w : Versioned). w.num) e in omega (arith, n, below)
 
       more : (other : List ℕ) → (look plan s other).num ≤ (look plan t other).num
       more other = go (key_cases other key)
         where
           its : AfterKeep its_records r → (look plan s key).num ≤ (found stored key).num
-          its (IsPut e above) = let n = ap (λ (w : Held). w.num) e in omega (arith, n, above)
-          its (IsLeft e below) = let n = ap (λ (w : Held). w.num) e in omega (arith, n)
+          its (IsPut e above) = let n = ap (λ (w : Versioned). w.num) e in omega (arith, n, above)
+          its (IsLeft e below) = let n = ap (λ (w : Versioned). w.num) e in omega (arith, n)
 
           go : (other ≡ key) ⊎ (other ≢ key) → (look plan s other).num ≤ (look plan t other).num
-          go (inl same) = subst (λ q. (look plan s q).num ≤ (look plan t q).num) (sym same) (subst (λ (w : Held). (look plan s key).num ≤ w.num) (sym its_look) (its (after_keep its_records r)))
-          go (inr ne) = let n = ap (λ (w : Held). w.num) (other_look other ne) in omega (arith, n)
+          go (inl same) = subst (λ q. (look plan s q).num ≤ (look plan t q).num) (sym same) (subst (λ (w : Versioned). (look plan s key).num ≤ w.num) (sym its_look) (its (after_keep its_records r)))
+          go (inr ne) = let n = ap (λ (w : Versioned). w.num) (other_look other ne) in omega (arith, n)
 
       written : (other : List ℕ) → IsWritten plan s.log s.steps other (look plan t other).num (look plan t other).body
       written other = go (key_cases other key)
         where
           its : AfterKeep its_records r → IsWritten plan s.log s.steps key (found stored key).num (found stored key).body
-          its (IsPut e above) = subst (λ (w : Held). IsWritten plan s.log s.steps key w.num w.body) (sym e) (record {
+          its (IsPut e above) = subst (λ (w : Versioned). IsWritten plan s.log s.steps key w.num w.body) (sym e) (record {
             none = λ z. let above = h.above in absurd (omega (arith, z, above));
             some = λ more. record { op = op; own = h.own; on_key = h.serves.on_key; same_body = h.same_body };
           })
-          its (IsLeft e below) = subst (λ (w : Held). IsWritten plan s.log s.steps key w.num w.body) (sym e) (k.records key)
+          its (IsLeft e below) = subst (λ (w : Versioned). IsWritten plan s.log s.steps key w.num w.body) (sym e) (k.records key)
 
           go : (other ≡ key) ⊎ (other ≢ key) → IsWritten plan s.log s.steps other (look plan t other).num (look plan t other).body
           go (inl same) = subst (λ q. IsWritten plan s.log s.steps q (look plan t q).num (look plan t q).body) (sym same)
-              (subst (λ (w : Held). IsWritten plan s.log s.steps key w.num w.body) (sym its_look) (its (after_keep its_records r)))
-          go (inr ne) = subst (λ (w : Held). IsWritten plan s.log s.steps other w.num w.body) (sym (other_look other ne)) (k.records other)
+              (subst (λ (w : Versioned). IsWritten plan s.log s.steps key w.num w.body) (sym its_look) (its (after_keep its_records r)))
+          go (inr ne) = subst (λ (w : Versioned). IsWritten plan s.log s.steps other w.num w.body) (sym (other_look other ne)) (k.records other)

@@ -1,11 +1,12 @@
--- What a server has for a key after a record of it was kept.
+-- What a server has for a key after a record of it was stored.
+use Rattle.far_base.specs.declared.record.Versioned.{Versioned}
 use Rattle.std.proofs.Common.{◌≡◌, ℕ, ◌<◌, ◌≤◌, Bool, true, false, cond, List, [], ◌∷◌, refl, sym, ap, ◌∙◌, subst, arith, lt-ltb}
 use Rattle.std.specs.Prelude.{Option, None, Some, IfSome, nat_lt}
 use Rattle.far_base.specs.declared.record.Record.{Record}
-use Rattle.far_model.specs.History.{Held, held_in}
+use Rattle.far_model.specs.History.{held_in}
 use Rattle.far_model.specs.KeyedRecords.{found, put_record}
 use Rattle.far_model.specs.Log.{same_key}
-use Rattle.far_model.specs.Servers.{kept, record_of}
+use Rattle.far_model.specs.Servers.{record_of, stored}
 use Rattle.far_outside.specs.Keeping.{records_of, record_for}
 use Rattle.std.proofs.lemmas.Bool.Decides.{nat_tests}
 use Rattle.server_keeper.proofs.Keys.{same_as_itself}
@@ -23,14 +24,14 @@ found_put (x ∷ xs) r = by (same_key x.key r.key) refl (found_put xs r)
 
 -- the answer after a put is known before it: the new record where it is the newer, else the one that was there
 pub newer_answers : (o : Option (List (List Record))) (server : ℕ) (rec held : Record) → IfSome o (λ all. held ≡ record_for (records_of all server) rec.key) → held.num < rec.num
-    → IfSome o (λ all. rec ≡ record_for (kept (records_of all server) rec) rec.key)
+    → IfSome o (λ all. rec ≡ record_for (stored (records_of all server) rec) rec.key)
 newer_answers None server rec held h l = tt
 newer_answers (Some all) server rec held h l =
     let more : nat_lt (found (records_of all server) rec.key).num rec.num ≡ true = lt-ltb (found (records_of all server) rec.key).num rec.num (subst (λ n. n < rec.num) (ap (λ (r : Record). r.num) h) l) in
-    sym (ap (λ b. record_for (cond b (put_record rec (records_of all server)) (records_of all server)) rec.key) more ∙ ap (λ (held : Held). record_of rec.key held.num held.body) (found_put (records_of all server) rec))
+    sym (ap (λ b. record_for (cond b (put_record rec (records_of all server)) (records_of all server)) rec.key) more ∙ ap (λ (held : Versioned). record_of rec.key held.num held.body) (found_put (records_of all server) rec))
 
 pub older_answers : (o : Option (List (List Record))) (server : ℕ) (rec held : Record) → IfSome o (λ all. held ≡ record_for (records_of all server) rec.key) → rec.num ≤ held.num
-    → IfSome o (λ all. held ≡ record_for (kept (records_of all server) rec) rec.key)
+    → IfSome o (λ all. held ≡ record_for (stored (records_of all server) rec) rec.key)
 older_answers None server rec held h l = tt
 older_answers (Some all) server rec held h l =
     let less : nat_lt (found (records_of all server) rec.key).num rec.num ≡ false = le-ltb-false (found (records_of all server) rec.key).num rec.num (subst (λ n. rec.num ≤ n) (ap (λ (r : Record). r.num) h) l) in

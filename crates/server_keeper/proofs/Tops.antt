@@ -5,7 +5,7 @@ use borrow.Author.Tests.{ltb-true, ltb-false}
 use Rattle.far_base.specs.declared.record.Record.{Record}
 use Rattle.far_model.specs.KeyedRecords.{found, put_record}
 use Rattle.far_model.specs.Log.{same_key}
-use Rattle.far_model.specs.Servers.{kept, top_of}
+use Rattle.far_model.specs.Servers.{top_of, stored}
 use Rattle.far_outside.specs.Keeping.{records_of, put_at}
 use Rattle.server_keeper.specs.Lists.{top_of_all}
 
@@ -26,7 +26,7 @@ top_put (x ∷ xs) r h = by (same_key x.key r.key) h (top_put xs r)
     by true h rest = omega arith
     by false h rest = let e = rest h in omega arith
 
-pub top_kept : (rs : List Record) (r : Record) → top_of (kept rs r) ≡ max (top_of rs) r.num
+pub top_kept : (rs : List Record) (r : Record) → top_of (stored rs r) ≡ max (top_of rs) r.num
 top_kept rs r = by (nat_lt (found rs r.key).num r.num) refl
   where
     by : (b : Bool) → nat_lt (found rs r.key).num r.num ≡ b → top_of (cond b (put_record r rs) rs) ≡ max (top_of rs) r.num

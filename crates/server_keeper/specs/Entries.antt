@@ -1,15 +1,15 @@
 -- What a map of a server's records holds.
+use Rattle.far_base.specs.declared.record.Versioned.{Versioned}
 use Rattle.std.specs.Prelude.{ℕ, Bool, List, map}
 use Rattle.std.specs.List.{list_any}
 use Rattle.std.specs.List.Sorted.{IsSortedByKey}
 use Rattle.std.specs.Ordering.{nat_cmp}
 use Rattle.std.specs.Cmp.Lexicographic.{slice_cmp}
 use Rattle.far_base.specs.declared.record.Record.{Record}
-use Rattle.far_model.specs.History.{Held}
 use Rattle.far_model.specs.Log.{same_key}
 use Rattle.server_keeper.specs.declared.records.Versioned.{Versioned}
 
-abbrev pub held_of : Versioned → Held
+abbrev pub held_of : Versioned → Versioned
 held_of v = record { num = v.num; body = v.body }
 
 -- an entry of the map is a record of its key

@@ -1,7 +1,7 @@
 ghost use Rattle.std.specs.Prelude.{◌≡◌, ◌<◌, ◌≤◌, max, Some, IfOk, IfSome, OnOk, OnErr, IsErrOf};
 ghost use Rattle.std.specs.Option.{option_map};
 ghost use Rattle.far_model.specs.Replies.{IsReplyTo};
-ghost use Rattle.far_model.specs.Servers.{kept, server_reply};
+ghost use Rattle.far_model.specs.Servers.{server_reply, stored};
 ghost use Rattle.far_outside.specs.Faults.{Rose};
 ghost use Rattle.far_outside.specs.Keeping.{records_of, record_for, put_at};
 ghost use Rattle.server_keeper.specs.Step.{IsForServer, after_packet, number_in, number_of_reply};
@@ -38,7 +38,7 @@ impl From<KeeperFault> for StepFault {
 /// server has then. The put is the last call on the keeper.
 fn keep<K: Keeper>(keeper: &mut K, server: u32, rec: Record) -> Result<Record, StepFault>
     requires { server < K.server_count keeper.old }
-    ensures kept { IfOk result (λ r. IfSome (K.records keeper.old) (λ all. r ≡ record_for (kept (records_of all server) rec) rec.key)) }
+    ensures stored { IfOk result (λ r. IfSome (K.records keeper.old) (λ all. r ≡ record_for (stored (records_of all server) rec) rec.key)) }
     ensures key { IfOk result (λ r. r.key ≡ rec.key) }
     ensures bound { IfOk result (λ r. r.num ≤ K.ceiling keeper.new) }
     ensures records { OnOk result (K.records keeper.new ≡ option_map (put_at server rec) (K.records keeper.old)) }

@@ -21,7 +21,7 @@ use Rattle.far_model.specs.Events.{Keeping, happens, keeping_of, handled, delive
 use Rattle.far_model.specs.Members.{Among}
 use Rattle.far_model.specs.Parties.{Turn, idle}
 use Rattle.far_model.specs.Past.{SnapshotStart, Past, new_starts, remembers}
-use Rattle.far_model.specs.Snapshots.{Job, SnapshotView, no_snapshot, has_come, has_begun, has_part, is_whole, completed, part_reads, with_part, with_same}
+use Rattle.far_model.specs.Snapshots.{Job, SnapshotView, no_snapshot, has_begun, has_part, is_whole, completed, part_reads, with_part, with_same}
 use Rattle.far_model.specs.State.{State}
 use Rattle.far_model.specs.View.{is_taken}
 use Rattle.far_model.proofs.Members.{among_append_left}
@@ -150,7 +150,7 @@ module _ {tells : Bool} (plan : PlanView) (s : State) (starts : List SnapshotSta
       slot point has i within none true t =
           let b = (h.gathered.job j is).begun point has in
           let one = f.one runs j is (record { start = b.0; of = b.1 }) i within t in
-          let zero : held_part j i ≡ 0 = ap (λ o. cond {A = ℕ} (has_come o) 1 0) none in
+          let zero : held_part j i ≡ 0 = ap (λ o. cond {A = ℕ} (is_some o) 1 0) none in
           inr (omega (arith, one, zero))
 
       nothing : WasStarted starts j.id → (i : ℕ) → is_taken s.switch i ≡ false → parts_in j.id i s.bag + held_part j i ≡ 0
@@ -165,7 +165,7 @@ module _ {tells : Bool} (plan : PlanView) (s : State) (starts : List SnapshotSta
           none x a false e = refl
 
           held : (o : Option (Option Record)) → part_at j i ≡ o → held_part j i ≡ 0
-          held None e = ap (λ o. cond {A = ℕ} (has_come o) 1 0) e
+          held None e = ap (λ o. cond {A = ℕ} (is_some o) 1 0) e
           held (Some view) e = absurd (let yes = ((h.in_step runs).runs j is w.start w.of).parts i view e in let clash : true ≡ false = sym yes ∙ u in cc)
 
   -- nothing is on its way: then the job, if there were one, would be whole
@@ -175,21 +175,21 @@ module _ {tells : Bool} (plan : PlanView) (s : State) (starts : List SnapshotSta
       nothing : {P : Packet → Type 0} → Flies P s.bag → ⊥
       nothing x = subst (λ l. Among x.message l) empty x.there
 
-      all_come : (parts : List (Option (Option Record))) → ((i : ℕ) → i < length parts → has_come (get_or parts i None) ≡ true) → list_all has_come parts ≡ true
+      all_come : (parts : List (Option (Option Record))) → ((i : ℕ) → i < length parts → is_some (get_or parts i None) ≡ true) → list_all is_some parts ≡ true
       all_come [] each = refl
-      all_come (p ∷ ps) each = let first : has_come p ≡ true = each 0 (omega arith) in let rest = all_come ps (λ i l. each (suc i) (omega (arith, l))) in ap (λ b. b && list_all has_come ps) first ∙ rest
+      all_come (p ∷ ps) each = let first : is_some p ≡ true = each 0 (omega arith) in let rest = all_come ps (λ i l. each (suc i) (omega (arith, l))) in ap (λ b. b && list_all is_some ps) first ∙ rest
 
       go : (o : Option Job) → s.controller.job ≡ o → s.controller.job ≡ None
       go None e = e
       go (Some j) e = absurd (started (f.start runs j e))
         where
-          come : WasStarted starts j.id → (point : ℕ) → j.begun ≡ Some point → (i : ℕ) → i < length j.parts → has_come (get_or j.parts i None) ≡ true
-          come w point has i l = taken (is_taken s.switch i) refl (has_come (get_or j.parts i None)) refl
+          come : WasStarted starts j.id → (point : ℕ) → j.begun ≡ Some point → (i : ℕ) → i < length j.parts → is_some (get_or j.parts i None) ≡ true
+          come w point has i l = taken (is_taken s.switch i) refl (is_some (get_or j.parts i None)) refl
             where
               within : i < plan.config.slots
               within = let a = (h.gathered.job j e).slots in omega (arith, a, l)
 
-              taken : (b : Bool) → is_taken s.switch i ≡ b → (c : Bool) → has_come (get_or j.parts i None) ≡ c → c ≡ true
+              taken : (b : Bool) → is_taken s.switch i ≡ b → (c : Bool) → is_some (get_or j.parts i None) ≡ c → c ≡ true
               taken false t c q = absurd (nothing (f.reads runs j point e has i within t))
               taken true t true q = refl
               taken true t false q =
@@ -201,7 +201,7 @@ module _ {tells : Bool} (plan : PlanView) (s : State) (starts : List SnapshotSta
           begun : WasStarted starts j.id → (o : Option ℕ) → j.begun ≡ o → ⊥
           begun w None off = nothing (f.begun runs j e w off)
           begun w (Some point) has =
-              let whole : is_whole j ≡ true = ap (λ (o : Option ℕ). is_some o && list_all has_come j.parts) has ∙ all_come j.parts (come w point has) in
+              let whole : is_whole j ≡ true = ap (λ (o : Option ℕ). is_some o && list_all is_some j.parts) has ∙ all_come j.parts (come w point has) in
               let clash : true ≡ false = sym whole ∙ f.unfinished j e in absurd cc
 
           started : WasStarted starts j.id ⊎ Flies (IsStartIn s.controller.epoch j.id) s.bag → ⊥

@@ -23,8 +23,8 @@ use Rattle.far_model.specs.Flights.{IsFor, Subject, OfOperation, OfAdmission, Of
 use Rattle.far_model.specs.Invariants.{IsGiven}
 use Rattle.far_model.specs.Members.{Among}
 use Rattle.far_model.specs.Parties.{Turn, idle, to_party, messages_from}
-use Rattle.far_model.specs.Rounds.{Round, asks_tops, has_told, telling_at, has_top}
-use Rattle.far_model.specs.Snapshots.{Job, SnapshotView, has_begun, has_come, has_part, is_whole, completed, part_reads, with_same, new_job}
+use Rattle.far_model.specs.Rounds.{Round, asks_tops, has_told, telling_at}
+use Rattle.far_model.specs.Snapshots.{Job, SnapshotView, has_begun, has_part, is_whole, completed, part_reads, with_same, new_job}
 use Rattle.far_model.specs.Work.{message_weight, packet_weight, wants_weight, room, job_weight, round_weight, is_peeking, is_removing, tries_of, told_weight, is_for_want}
 use Rattle.far_model.specs.View.{server_of}
 use Rattle.work_laws.specs.InFlight.{EvictionIs, TriesFit, is_own}
@@ -278,7 +278,7 @@ module _ (plan : PlanView) (rest : List Message) where
 
   reads_weigh : (c : ControllerState) (epoch id i : ℕ) (parts : List (Option (Option Record))) → sum_by (message_weight plan c) (messages_from Controller (part_reads epoch id i parts)) ≤ length parts
   reads_weigh c epoch id i [] = omega arith
-  reads_weigh c epoch id i (part ∷ parts) = go (has_come part) (reads_weigh c epoch id (suc i) parts)
+  reads_weigh c epoch id i (part ∷ parts) = go (is_some part) (reads_weigh c epoch id (suc i) parts)
     where
       go : (b : Bool) → sum_by (message_weight plan c) (messages_from Controller (part_reads epoch id (suc i) parts)) ≤ length parts
           → sum_by (message_weight plan c) (messages_from Controller (cond b (part_reads epoch id (suc i) parts) (to_party Switch (SnapRead epoch id i) ∷ part_reads epoch id (suc i) parts))) ≤ suc (length parts)
@@ -395,7 +395,7 @@ module _ (plan : PlanView) (rest : List Message) where
 
   top_lowers : (c : ControllerState) (number server top : ℕ) (o : Option Round) → ControlLowers plan (record c { round = o }) rest 1 (top_told plan.config (record c { round = o }) number server top o)
   top_lowers c number server top None = idle_turn (record c { round = None }) 1 (omega arith)
-  top_lowers c number server top (Some r) = tested (ControlLowers plan (record c { round = Some r }) rest 1) (nat_eq r.number number && (r.asked && (nat_lt server (length r.tops) && not (has_top (slice_index_or r.tops server None))))) _ _
+  top_lowers c number server top (Some r) = tested (ControlLowers plan (record c { round = Some r }) rest 1) (nat_eq r.number number && (r.asked && (nat_lt server (length r.tops) && not (is_some (slice_index_or r.tops server None))))) _ _
       (λ e. same_turn (record c { round = Some r }) 1 _ refl (omega arith) refl)
       (λ e. idle_turn (record c { round = Some r }) 1 (omega arith))
 

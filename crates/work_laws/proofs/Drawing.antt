@@ -30,9 +30,9 @@ use Rattle.far_model.specs.Members.{Among, Each}
 use Rattle.far_model.specs.Parties.{Turn, idle, messages_from, to_party}
 use Rattle.far_model.specs.Pass.{pass, pass_notes, passed_out}
 use Rattle.far_model.specs.Replies.{IsReplyTo, KeptEvent, RepliesAt, RepliesToMessage, run_with}
-use Rattle.far_model.specs.Rounds.{Round, asks_tops, greatest_top, has_told, has_top, telling_at}
-use Rattle.far_model.specs.Servers.{kept, record_of, server_keeps}
-use Rattle.far_model.specs.Snapshots.{Job, SnapshotView, has_begun, has_come, has_part, is_whole, number_or_none, part_reads, view_in, view_records, with_same}
+use Rattle.far_model.specs.Rounds.{Round, asks_tops, greatest_top, has_told, telling_at}
+use Rattle.far_model.specs.Servers.{record_of, server_keeps, stored}
+use Rattle.far_model.specs.Snapshots.{Job, SnapshotView, has_begun, has_part, is_whole, number_or_none, part_reads, view_in, view_records, with_same}
 use Rattle.far_model.specs.State.{State, client_at, clients_from, line_at, nobody, noted, now, opening, records_at}
 use Rattle.far_model.specs.View.{empty_slot}
 use Rattle.far_model.proofs.Members.{among_append, among_at, among_remove}
@@ -71,7 +71,7 @@ module _ (plan : PlanView) (n : ℕ) where
 
   reads_within : (epoch id i : ℕ) (parts : List (Option (Option Record))) → Each (λ (o : Out). number_in o.packet ≤ n) (part_reads epoch id i parts)
   reads_within epoch id i [] = tt
-  reads_within epoch id i (part ∷ parts) = tested (Each (λ (o : Out). number_in o.packet ≤ n)) (has_come part) _ _ (λ e. reads_within epoch id (suc i) parts) (λ e. (omega arith, reads_within epoch id (suc i) parts))
+  reads_within epoch id i (part ∷ parts) = tested (Each (λ (o : Out). number_in o.packet ≤ n)) (is_some part) _ _ (λ e. reads_within epoch id (suc i) parts) (λ e. (omega arith, reads_within epoch id (suc i) parts))
 
   stores_within : (job : ℕ) (items : List Record) → RecordsWithin n items → Each (λ (o : Out). number_in o.packet ≤ n) (stores_of plan.config job items)
   stores_within job [] h = tt
@@ -243,7 +243,7 @@ module _ (plan : PlanView) (n : ℕ) where
 
     top_in : (number server top : ℕ) → top ≤ n → (o : Option Round) → c.round ≡ o → TurnWithin n (top_told plan.config c number server top o)
     top_in number server top b None is = idle_in
-    top_in number server top b (Some r) is = tested (TurnWithin n) (nat_eq r.number number && (r.asked && (nat_lt server (length r.tops) && not (has_top (slice_index_or r.tops server None))))) _ (idle c)
+    top_in number server top b (Some r) is = tested (TurnWithin n) (nat_eq r.number number && (r.asked && (nat_lt server (length r.tops) && not (is_some (slice_index_or r.tops server None))))) _ (idle c)
         (λ e. record { state = record { eviction = h.eviction; job = h.job; point = h.point; views = h.views; round = each_set begun_number n r.tops server (Some top) b (subst (RoundWithin n) is h.round) }; outs = tt }) (λ e. idle_in)
 
     takes_in : (p : Packet) → number_in p ≤ n → TurnWithin n (controller_takes plan.config c p)
@@ -325,8 +325,8 @@ module _ (plan : PlanView) (n ceiling : ℕ) (s : State) (h : NumbersWithin n ce
 
   takes_client : (c : ℕ) (p : Packet) → number_in p ≤ n → ClientWithin n (client_takes plan.ops c (client_at s c) p).state × ((o : Out) → Among o (client_takes plan.ops c (client_at s c) p).out → number_in o.packet ≤ n)
   takes_client c (GetAns caller op key num body near) b = (record { released = (h.clients c).released; preserved = (h.clients c).preserved }, λ o a. absurd a)
-  takes_client c (WriteAns caller op key num kept) b = (
-    tested (ClientWithin n) (kept && nat_lt (client_at s c).released num) _ _
+  takes_client c (WriteAns caller op key num stored) b = (
+    tested (ClientWithin n) (stored && nat_lt (client_at s c).released num) _ _
         (λ e. record { released = (h.clients c).released; preserved = put_within n (answered_record plan.ops op num) (client_at s c).preserved b (h.clients c).preserved })
         (λ e. record { released = (h.clients c).released; preserved = (h.clients c).preserved }),
     λ o a. absurd a,
@@ -479,7 +479,7 @@ step_in plan k ceiling s Restart h ans = go (ready s.controller) refl
   where
     counter_in : (o : Option Round) (counter : ℕ) → RoundWithin (drawn_count s.log) o → ready_in o ≡ Some counter → counter ≤ drawn_count s.log
     counter_in None counter b e = absurd (none-some counter e)
-    counter_in (Some r) counter b e = by ((r.asked && list_all has_top r.tops) && (list_all has_told r.told && nat_eq r.stores 0)) e
+    counter_in (Some r) counter b e = by ((r.asked && list_all is_some r.tops) && (list_all has_told r.told && nat_eq r.stores 0)) e
       where
         by : (t : Bool) → cond t (Some (greatest_top r.tops)) None ≡ Some counter → counter ≤ drawn_count s.log
         by true z = subst (λ n. n ≤ drawn_count s.log) (same_Some (greatest_top r.tops) counter z) (top_within plan (drawn_count s.log) r.tops b)

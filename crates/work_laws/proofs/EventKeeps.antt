@@ -22,7 +22,7 @@ use Rattle.far_model.specs.Flights.{IsFor, Subject, OfOperation, OfAdmission, Of
 use Rattle.far_model.specs.Invariants.{IsGiven, admission_count, admits_under, is_admission_of}
 use Rattle.far_model.specs.Members.{Among}
 use Rattle.far_model.specs.Parties.{messages_from}
-use Rattle.far_model.specs.Rounds.{Round, has_told, has_top, no_telling}
+use Rattle.far_model.specs.Rounds.{Round, has_told, no_telling}
 use Rattle.far_model.specs.State.{State}
 use Rattle.far_model.specs.View.{SlotView, empty_slot, opening_view, server_of, slot_at}
 use Rattle.far_model.proofs.Members.{among_append}
@@ -216,7 +216,7 @@ recovery_keeps plan k s valid flight h able = record {
       tops_size = length-replicate plan.config.servers None;
       waits = waits plan.config.clients valid.config.clients.0;
       asked = λ e. absurd (true≢false (sym e));
-      untold = λ e n. ap has_top (get_or-replicate_default plan.config.servers n None);
+      untold = λ e n. ap is_some (get_or-replicate_default plan.config.servers n None);
       stores = count_stores;
       tellings = λ c b. inl (record { asked = count_asks c b; told = count_none (λ (x : Message). is_told s.controller.next_round c x.packet) t.bag (λ x a. no_told c x (split x a)); none = get_or-replicate_default plan.config.clients c no_telling });
       tops = λ n b. count_none (λ (x : Message). is_top s.controller.next_round n x.to x.packet) t.bag (λ x a. no_top n x (split x a));

@@ -32,7 +32,7 @@ use Rattle.far_model.specs.Log.{is_read}
 use Rattle.far_model.specs.Parties.{Turn, idle, messages_from}
 use Rattle.far_model.specs.Pass.{pass}
 use Rattle.far_model.specs.Replies.{KeepersAnswer, RepliesAt, RepliesToMessage}
-use Rattle.far_model.specs.Rounds.{Round, greatest_top, has_told, has_top}
+use Rattle.far_model.specs.Rounds.{Round, greatest_top, has_told}
 use Rattle.far_model.specs.Snapshots.{view_records}
 use Rattle.far_model.specs.State.{State, client_at, nobody}
 use Rattle.far_model.specs.View.{SwitchView, is_taken, opening_view, server_of}
@@ -325,7 +325,7 @@ restart_lowers plan k s (Some counter) e h =
     asked None k = absurd (none-some counter k)
     asked (Some r) k = go r.asked k
       where
-        go : (b : Bool) → cond ((b && list_all has_top r.tops) && (list_all has_told r.told && nat_eq r.stores 0)) (Some (greatest_top r.tops)) None ≡ Some counter → cond {A = ℕ} b 1 (2 * plan.config.servers + 1) ≡ 1
+        go : (b : Bool) → cond ((b && list_all is_some r.tops) && (list_all has_told r.told && nat_eq r.stores 0)) (Some (greatest_top r.tops)) None ≡ Some counter → cond {A = ℕ} b 1 (2 * plan.config.servers + 1) ≡ 1
         go true k = refl
         go false k = absurd (none-some counter k)
 

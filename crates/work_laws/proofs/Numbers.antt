@@ -9,7 +9,7 @@ use Rattle.far_model.specs.KeyedRecords.{put_record}
 use Rattle.far_model.specs.Log.{same_key}
 use Rattle.far_model.specs.Members.{Among, Each}
 use Rattle.far_model.specs.Pass.{Passed, absorbing, changes, dropped, numbered, pass, passed_out, part_of, raised, reply_passes, outs_of, touched, with_slot, with_taken, part_packet, is_as_before}
-use Rattle.far_model.specs.View.{SlotView, SwitchView, empty_slot, entry_place, held_record, record_of, slot_at}
+use Rattle.far_model.specs.View.{SlotView, SwitchView, empty_slot, entry_place, held_record, slot_at, keyed_record}
 use Rattle.flight_laws.proofs.Lists.{all_set, by_test}
 use Rattle.work_laws.specs.Drawn.{RecordsWithin, number_in, number_of}
 use Rattle.work_laws.proofs.Passes.{admit_cases, changes_cases, part_cases, peek_cases, read_cases, remove_cases, reply_cases, start_cases, write_cases, from_cases}
@@ -53,7 +53,7 @@ module _ (n : ℕ) (v : SwitchView) (counter : v.counter ≤ n) (slots : (i : �
   held_within : (slot : SlotView) → slot.num ≤ n → number_of (held_record slot) ≤ n
   held_within slot b = go slot.latest slot.key
     where
-      go : (l : Bool) (k : Option (List ℕ)) → number_of (cond l (record_of k slot.num slot.body) None) ≤ n
+      go : (l : Bool) (k : Option (List ℕ)) → number_of (cond l (keyed_record k slot.num slot.body) None) ≤ n
       go true None = omega arith
       go true (Some key) = b
       go false k = omega arith

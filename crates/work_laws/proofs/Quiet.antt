@@ -26,9 +26,8 @@ use Rattle.far_model.specs.Evictions.{Eviction, first_place, has_key, is_free, i
 use Rattle.far_model.specs.Flights.{IsFor, IsFrom, flights_of, open_count, subject}
 use Rattle.far_model.specs.Invariants.{admission_count}
 use Rattle.far_model.specs.Members.{Among}
-use Rattle.far_model.specs.Rounds.{Round, Telling, asks_tops, greatest_top, has_told, has_top, no_telling, ready_counter, telling_at}
+use Rattle.far_model.specs.Rounds.{Round, Telling, asks_tops, greatest_top, has_told, no_telling, ready_counter, telling_at}
 use Rattle.far_model.specs.Runs.{is_done, is_empty_bag, is_finished, is_quiet}
-use Rattle.far_model.specs.Snapshots.{has_come}
 use Rattle.far_model.specs.State.{State, client_at}
 use Rattle.flight_laws.proofs.Finishing.{none_sends}
 use Rattle.flight_laws.proofs.Handling.{IsInFlight}
@@ -233,7 +232,7 @@ from_switch _ from h f = refl
 
 -- ---- a running switch
 
-all_come : (parts : List (Option (Option Record))) → ((i : ℕ) → i < length parts → has_come (slice_index_or parts i None) ≡ true) → list_all has_come parts ≡ true
+all_come : (parts : List (Option (Option Record))) → ((i : ℕ) → i < length parts → is_some (slice_index_or parts i None) ≡ true) → list_all is_some parts ≡ true
 all_come [] h = refl
 all_come (x ∷ xs) h = both_true _ _ (h 0 (omega arith)) (all_come xs (λ i b. h (suc i) (omega (arith, b))))
 
@@ -370,14 +369,14 @@ module _ (plan : PlanView) (valid : IsPlan plan) (s : State) (h : Flies plan s) 
         not_ready : is_some (ready_counter r) ≡ false
         not_ready = sym (ap (λ o. is_some (ready_in o)) e) ∙ rests.restarts
 
-        ready_if : r.asked ≡ true → list_all has_top r.tops ≡ true → list_all has_told r.told ≡ true → r.stores ≡ 0 → is_some (ready_counter r) ≡ true
+        ready_if : r.asked ≡ true → list_all is_some r.tops ≡ true → list_all has_told r.told ≡ true → r.stores ≡ 0 → is_some (ready_counter r) ≡ true
         ready_if a b c d = ap (λ z. is_some (cond z (Some (greatest_top r.tops)) None)) (both_true _ _ (both_true _ _ a b) (both_true _ _ c (eq-eqb r.stores 0 d)))
 
         -- each top is there, else it is on its way
-        top_there : r.asked ≡ true → (n : ℕ) → n < length r.tops → has_top (slice_index_or r.tops n None) ≡ true
-        top_there a n b = at (has_top (slice_index_or r.tops n None)) refl
+        top_there : r.asked ≡ true → (n : ℕ) → n < length r.tops → is_some (slice_index_or r.tops n None) ≡ true
+        top_there a n b = at (is_some (slice_index_or r.tops n None)) refl
           where
-            at : (t : Bool) → has_top (slice_index_or r.tops n None) ≡ t → t ≡ true
+            at : (t : Bool) → is_some (slice_index_or r.tops n None) ≡ t → t ≡ true
             at true k = refl
             at false k =
                 let due : due_top r n ≡ 1 = ap (λ z. cond {A = ℕ} z 1 0) (both_true _ _ a (not_false _ k)) in
@@ -466,7 +465,7 @@ module _ (plan : PlanView) (valid : IsPlan plan) (s : State) (h : Flies plan s) 
         go : (z : Bool) → r.asked ≡ z → ⊥
         go true a =
             let f = is.asked a in
-            true≢false (sym (ready_if a (all_pass has_top r.tops None (top_there a)) f.0 f.1) ∙ not_ready)
+            true≢false (sym (ready_if a (all_pass is_some r.tops None (top_there a)) f.0 f.1) ∙ not_ready)
         go false a = stores (nat_eq r.stores 0) refl
           where
             stores : (z : Bool) → nat_eq r.stores 0 ≡ z → ⊥

@@ -23,7 +23,7 @@ use Rattle.far_model.specs.Controller.{ControllerState, acknowledged, client_tol
 use Rattle.far_model.specs.Events.{Keeping, can_deliver_some, delivers, does_order, handled, happens_with, is_enabled, is_order_due, restarts, ticks}
 use Rattle.far_model.specs.Evictions.{Eviction, Next, Send, Store as StoreNext, Done, Kept, after_peek, after_removal, first_place, has_key, holds_key, is_admitting, is_free, state_at, victim, waits_for, waits_job}
 use Rattle.far_model.specs.Parties.{Turn, idle, messages_from}
-use Rattle.far_model.specs.Rounds.{Round, asks_tops, has_told, has_top, telling_at}
+use Rattle.far_model.specs.Rounds.{Round, asks_tops, has_told, telling_at}
 use Rattle.far_model.specs.Snapshots.{Job, has_begun, has_part, is_whole, part_reads, with_same}
 use Rattle.far_model.specs.State.{State, opening}
 use Rattle.far_model.specs.Work.{asked_weight, message_weight, packet_weight, told_weight, work_left}
@@ -151,7 +151,7 @@ module _ (plan : PlanView) (c : ControllerState) where
 
   top_draws : (number server top : ℕ) (o : Option Round) → DrawsTurn c (top_told plan.config c number server top o)
   top_draws number server top None = idle_draws
-  top_draws number server top (Some r) = tested (DrawsTurn c) (nat_eq r.number number && (r.asked && (nat_lt server (length r.tops) && not (has_top (slice_index_or r.tops server None))))) _ (idle c) (λ e. record { tags = omega arith; ids = omega arith; rounds = omega arith; epochs = omega arith; jobs = omega arith }) (λ e. idle_draws)
+  top_draws number server top (Some r) = tested (DrawsTurn c) (nat_eq r.number number && (r.asked && (nat_lt server (length r.tops) && not (is_some (slice_index_or r.tops server None))))) _ (idle c) (λ e. record { tags = omega arith; ids = omega arith; rounds = omega arith; epochs = omega arith; jobs = omega arith }) (λ e. idle_draws)
 
   acked_draws : (i tag : ℕ) → DrawsTurn c (acknowledged c i tag)
   acked_draws i tag = tested (DrawsTurn c) (is_admitting tag (state_at c.slots i)) _ (idle c) (λ e. record { tags = omega arith; ids = omega arith; rounds = omega arith; epochs = omega arith; jobs = omega arith }) (λ e. idle_draws)

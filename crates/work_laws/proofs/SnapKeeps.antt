@@ -1,6 +1,6 @@
 -- Snapshots at the controller: they start, begin, gather parts and are whole.
 use Rattle.std.proofs.Common.{◌≡◌, ℕ, zero, suc, ◌+◌, ◌≤◌, ◌<◌, ◌⊎◌, inl, inr, Bool, true, false, cond, not, ◌&&◌, nat_eq, nat_lt, List, [], ◌∷◌, length, length-set, refl, sym, ap, ◌∙◌, subst, arith, le_trans}
-use Rattle.std.specs.Prelude.{Option, None, Some, slice_index_or, slice_get}
+use Rattle.std.specs.Prelude.{Option, None, Some, slice_index_or, slice_get, is_some}
 use Rattle.std.proofs.lemmas.List.{length-replicate, length-map}
 use Rattle.far_base.specs.PlanView.{PlanView}
 use Rattle.far_base.specs.declared.packet.Message.{Message}
@@ -14,7 +14,7 @@ use Rattle.far_model.specs.Events.{controller_turn}
 use Rattle.far_model.specs.Flights.{Subject, OfSnapshot, OfNone, subject}
 use Rattle.far_model.specs.Members.{Among}
 use Rattle.far_model.specs.Parties.{Turn, idle, messages_from, to_party}
-use Rattle.far_model.specs.Snapshots.{Job, completed, has_begun, has_come, has_part, is_whole, part_reads, view_in, with_same, with_part}
+use Rattle.far_model.specs.Snapshots.{Job, completed, has_begun, has_part, is_whole, part_reads, view_in, with_same, with_part}
 use Rattle.far_model.specs.State.{State}
 use Rattle.far_model.proofs.Members.{among_append}
 use Rattle.work_laws.specs.InFlight.{RoundsFly, epoch_in}
@@ -35,7 +35,7 @@ released_is point n (suc more) o (inr a) = released_is point (suc n) more o a
 -- a reading of the snapshot
 reads_are : (epoch id i : ℕ) (parts : List (Option (Option Record))) (o : Out) → Among o (part_reads epoch id i parts) → (j : ℕ) × (o.packet ≡ SnapRead epoch id j)
 reads_are epoch id i [] o a = absurd a
-reads_are epoch id i (part ∷ parts) o a = go (has_come part) (λ b. reads_are epoch id (suc i) parts o b) a
+reads_are epoch id i (part ∷ parts) o a = go (is_some part) (λ b. reads_are epoch id (suc i) parts o b) a
   where
     go : (b : Bool) → (Among o (part_reads epoch id (suc i) parts) → (j : ℕ) × (o.packet ≡ SnapRead epoch id j)) → Among o (cond b (part_reads epoch id (suc i) parts) (to_party Switch (SnapRead epoch id i) ∷ part_reads epoch id (suc i) parts)) → (j : ℕ) × (o.packet ≡ SnapRead epoch id j)
     go true f a = f a

@@ -1,5 +1,5 @@
 -- Admissions, evictions, snapshots and rounds: each that is under way has its packets on their way.
-use Rattle.std.specs.Prelude.{◌≡◌, ℕ, ◌+◌, ◌<◌, ◌≤◌, max, ◌⊎◌, Bool, true, false, ◌&&◌, not, nat_eq, nat_le, if◌then◌else◌, List, [], length, slice_index_or, Option, None, Some}
+use Rattle.std.specs.Prelude.{◌≡◌, ℕ, ◌+◌, ◌<◌, ◌≤◌, max, ◌⊎◌, Bool, true, false, ◌&&◌, not, nat_eq, nat_le, if◌then◌else◌, List, [], length, slice_index_or, Option, None, Some, is_some}
 use Rattle.std.specs.List.{count_by, list_all}
 use Rattle.far_base.specs.PlanView.{PlanView}
 use Rattle.far_base.specs.declared.packet.Message.{Message}
@@ -16,7 +16,7 @@ use Rattle.far_model.specs.Evictions.{Eviction, is_due, state_at}
 use Rattle.far_model.specs.Flights.{Subject, OfAdmission, OfEviction, OfJob, OfSnapshot, OfRound, subject}
 use Rattle.far_model.specs.Invariants.{IsGiven, is_admission_of, admits_under, admission_count}
 use Rattle.far_model.specs.Members.{Among}
-use Rattle.far_model.specs.Rounds.{Round, no_telling, has_told, telling_at, asks_tops, has_top}
+use Rattle.far_model.specs.Rounds.{Round, no_telling, has_told, telling_at, asks_tops}
 use Rattle.far_model.specs.State.{State}
 use Rattle.far_model.specs.View.{SwitchView, slot_at}
 
@@ -169,7 +169,7 @@ pub record IsTelling (bag : List Message) (r : Round) (c : ℕ) : Type 0 where
   pub known : (telling_at r c ≡ no_telling) ⊎ ((telling_at r c).total ≡ Some total)
 
 abbrev pub due_top : Round → ℕ → ℕ
-due_top r n = if r.asked && not (has_top (slice_index_or r.tops n None)) then 1 else 0
+due_top r n = if r.asked && not (is_some (slice_index_or r.tops n None)) then 1 else 0
 
 pub record RoundIs (plan : PlanView) (s : State) (r : Round) : Type 0 where
   pub running : s.running ≡ false
@@ -184,7 +184,7 @@ pub record RoundIs (plan : PlanView) (s : State) (r : Round) : Type 0 where
   pub tops_size : length r.tops ≡ plan.config.servers
   pub waits : asks_tops r ≡ false
   pub asked : r.asked ≡ true → (list_all has_told r.told ≡ true) × (r.stores ≡ 0)
-  pub untold : r.asked ≡ false → (n : ℕ) → has_top (slice_index_or r.tops n None) ≡ false
+  pub untold : r.asked ≡ false → (n : ℕ) → is_some (slice_index_or r.tops n None) ≡ false
   pub stores : count_by (λ (m : Message). is_job_from r.first_job (subject m.packet)) s.bag ≡ r.stores
   pub tellings : (c : ℕ) → c < plan.config.clients → IsAsked s.bag r c ⊎ IsTelling s.bag r c
   pub tops : (n : ℕ) → n < plan.config.servers → count_by (λ (m : Message). is_top r.number n m.to m.packet) s.bag ≡ due_top r n
