@@ -169,21 +169,21 @@ module _ (plan : PlanView) (s : State) (k : Keeps plan s) (rest : List Message) 
   pub write_served : (num : ℕ) (body : Option (List ℕ)) → WriteIsForwarded plan s caller op key num body
       → Keeps plan (server_turn s its_server rest (WriteFwd caller op key num body) (server_reply its_server its_records (WriteFwd caller op key num body)))
   write_served num body h =
-      served_keeps plan op s rest (set s.servers its_server stored) reply k same_length more written others (left_unsent h.serves) (λ t. tt)
+      served_keeps plan op s rest (set s.servers its_server after) reply k same_length more written others (left_unsent h.serves) (λ t. tt)
       (λ g records. record {
         serves = serves_lasts plan (Its op) [] s t g caller op key (absent_lasts s t [] refl (AnswersOp op) h.serves.unanswered tt) h.serves;
         write = h.write;
         unemitted = absent_lasts s t [] refl (EmitsOp op) h.unemitted tt;
         own = record { own = num; numbered_at = h.own.numbered_at; numbered = member s t [] refl _ h.own.numbered; before = le_trans h.own.before (past plan (Its op) [] s t g); within = least };
-        known = subst (λ (w : Versioned). (found stored key).num ≤ w.num) (sym its_look) (omega arith);
+        known = subst (λ (w : Versioned). (found after key).num ≤ w.num) (sym its_look) (omega arith);
         written = subst (λ (w : Versioned). IsWritten plan t.log t.steps key w.num w.body) its_look (records key);
       })
     where
       r : Record
       r = record_of key num body
 
-      stored : List Record
-      stored = stored its_records (record_of key num body)
+      after : List Record
+      after = stored its_records (record_of key num body)
 
       reply : Message
       reply = record { from = Server its_server; to = Switch; packet = WriteRep caller op key (found (stored its_records (record_of key num body)) key).num (found (stored its_records (record_of key num body)) key).body }
@@ -191,32 +191,32 @@ module _ (plan : PlanView) (s : State) (k : Keeps plan s) (rest : List Message) 
       t : State
       t = served plan op s rest (set s.servers its_server (stored its_records (record_of key num body))) reply
 
-      same_length : length (set s.servers its_server stored) ≡ length s.servers
-      same_length = length-set s.servers its_server stored
+      same_length : length (set s.servers its_server after) ≡ length s.servers
+      same_length = length-set s.servers its_server after
 
-      its_look : look plan t key ≡ found stored key
-      its_look = ap (λ l. found l key) (get_or-set_same s.servers its_server stored [] its_server_there)
+      its_look : look plan t key ≡ found after key
+      its_look = ap (λ l. found l key) (get_or-set_same s.servers its_server after [] its_server_there)
 
       other_look : (other : List ℕ) → other ≢ key → look plan t other ≡ look plan s other
       other_look other ne = go (eqb_tells (server_of plan.config other) its_server)
         where
           go : ((Rattle.std.specs.Prelude.eqb (server_of plan.config other) its_server ≡ true) × (server_of plan.config other ≡ its_server)) ⊎ ((Rattle.std.specs.Prelude.eqb (server_of plan.config other) its_server ≡ false) × (server_of plan.config other ≢ its_server))
               → look plan t other ≡ look plan s other
-          go (inl p) = ap (λ n. found (get_or (set s.servers its_server stored) n []) other) p.1 ∙ ap (λ l. found l other) (get_or-set_same s.servers its_server stored [] its_server_there)
+          go (inl p) = ap (λ n. found (get_or (set s.servers its_server after) n []) other) p.1 ∙ ap (λ l. found l other) (get_or-set_same s.servers its_server after [] its_server_there)
               ∙ kept_other its_records r other ne ∙ ap (λ n. found (get_or s.servers n []) other) (sym p.1)
-          go (inr p) = ap (λ l. found l other) (get_or-set_other s.servers its_server (server_of plan.config other) stored [] p.1)
+          go (inr p) = ap (λ l. found l other) (get_or-set_other s.servers its_server (server_of plan.config other) after [] p.1)
 
-      least : num ≤ (found stored key).num
+      least : num ≤ (found after key).num
       least = go (after_keep its_records r)
         where
-          go : AfterKeep its_records r → num ≤ (found stored key).num
+          go : AfterKeep its_records r → num ≤ (found after key).num
           go (IsPut e above) = let n = ap (λ (w : Versioned). w.num) e in omega (arith, n)
           go (IsLeft e below) = let n = ap (λ (w : Versioned). w.num) e in omega (arith, n, below)
 
       more : (other : List ℕ) → (look plan s other).num ≤ (look plan t other).num
       more other = go (key_cases other key)
         where
-          its : AfterKeep its_records r → (look plan s key).num ≤ (found stored key).num
+          its : AfterKeep its_records r → (look plan s key).num ≤ (found after key).num
           its (IsPut e above) = let n = ap (λ (w : Versioned). w.num) e in omega (arith, n, above)
           its (IsLeft e below) = let n = ap (λ (w : Versioned). w.num) e in omega (arith, n)
 
@@ -227,7 +227,7 @@ module _ (plan : PlanView) (s : State) (k : Keeps plan s) (rest : List Message) 
       written : (other : List ℕ) → IsWritten plan s.log s.steps other (look plan t other).num (look plan t other).body
       written other = go (key_cases other key)
         where
-          its : AfterKeep its_records r → IsWritten plan s.log s.steps key (found stored key).num (found stored key).body
+          its : AfterKeep its_records r → IsWritten plan s.log s.steps key (found after key).num (found after key).body
           its (IsPut e above) = subst (λ (w : Versioned). IsWritten plan s.log s.steps key w.num w.body) (sym e) (record {
             none = λ z. let above = h.above in absurd (omega (arith, z, above));
             some = λ more. record { op = op; own = h.own; on_key = h.serves.on_key; same_body = h.same_body };
