@@ -89,7 +89,7 @@ noted_at moment (Answered op) ls table h rows =
 noted_at moment (Admitted slot key tag) ls table h rows = λ o. record { sent = (rows o).sent; numbered = (rows o).numbered; emitted = (rows o).emitted; answered = (rows o).answered }
 noted_at moment (Evicted slot key tries) ls table h rows = λ o. record { sent = (rows o).sent; numbered = (rows o).numbered; emitted = (rows o).emitted; answered = (rows o).answered }
 noted_at moment (Kept slot key num) ls table h rows = λ o. record { sent = (rows o).sent; numbered = (rows o).numbered; emitted = (rows o).emitted; answered = (rows o).answered }
-noted_at moment (Snapped id point count) ls table h rows = λ o. record { sent = (rows o).sent; numbered = (rows o).numbered; emitted = (rows o).emitted; answered = (rows o).answered }
+noted_at moment (Snapped id point count same) ls table h rows = λ o. record { sent = (rows o).sent; numbered = (rows o).numbered; emitted = (rows o).emitted; answered = (rows o).answered }
 noted_at moment (SnapItem slot item) ls table h rows = λ o. record { sent = (rows o).sent; numbered = (rows o).numbered; emitted = (rows o).emitted; answered = (rows o).answered }
 noted_at moment Stopped ls table h rows = λ o. record { sent = (rows o).sent; numbered = (rows o).numbered; emitted = (rows o).emitted; answered = (rows o).answered }
 noted_at moment (Recovered counter count) ls table h rows = λ o. record { sent = (rows o).sent; numbered = (rows o).numbered; emitted = (rows o).emitted; answered = (rows o).answered }

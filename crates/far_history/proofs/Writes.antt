@@ -17,7 +17,6 @@ use Rattle.far_model.specs.Log.{At, same_key, sending}
 use Rattle.far_model.specs.History.{IsPlace, IsHistory, key_of, written_by, last_write, held_in, IsKeyBefore, IsFinalMap}
 use Rattle.far_history.specs.declared.told.Sending.{Sending}
 use Rattle.far_history.specs.declared.told.Told.{Told}
-use Rattle.far_history.specs.declared.last_writes.LastWrite.{LastWrite}
 use Rattle.far_history.specs.Told.{unheard, sending_told, IsRow}
 use Rattle.far_history.specs.LastWrites.{with_write, entries_with, entries_after, record_of}
 use Rattle.far_history.proofs.Keys.{same_key_tells}
@@ -25,7 +24,7 @@ use Rattle.far_history.proofs.Lists.{each_among}
 use Rattle.far_history.proofs.Orders.{key_self}
 
 abbrev Entry : Type 0
-Entry = List ℕ × LastWrite
+Entry = List ℕ × Versioned
 
 abbrev cmp : List ℕ → List ℕ → Ordering
 cmp = slice_cmp nat_cmp
@@ -51,7 +50,7 @@ apart a b l e = let z : cmp a b ≡ Equal = key_self a b e in cc
 abbrev Rise : Entry → Entry → Type 0
 Rise a b = cmp a.0 b.0 ≡ Less
 
-each_inserted : (x : List ℕ) (es : List Entry) (k : List ℕ) (v : LastWrite) → Each (λ (e : Entry). cmp x e.0 ≡ Less) es → cmp x k ≡ Less → Each (λ (e : Entry). cmp x e.0 ≡ Less) (insert_entry cmp es k v)
+each_inserted : (x : List ℕ) (es : List Entry) (k : List ℕ) (v : Versioned) → Each (λ (e : Entry). cmp x e.0 ≡ Less) es → cmp x k ≡ Less → Each (λ (e : Entry). cmp x e.0 ≡ Less) (insert_entry cmp es k v)
 each_inserted x [] k v h l = (l, tt)
 each_inserted x (e ∷ es) k v h l =
     let P : Ordering → Type 0 = λ o. Each (λ (e : Entry). cmp x e.0 ≡ Less) (match_ordering o ((k, v) ∷ e ∷ es) ((e.0, v) ∷ es) (e ∷ insert_entry cmp es k v)) in
@@ -65,7 +64,7 @@ each_below : (x y : List ℕ) (es : List Entry) → cmp x y ≡ Less → Each (�
 each_below x y [] l h = tt
 each_below x y (e ∷ es) l h = (nat_list_cmp_total.trans x y e.0 l h.0, each_below x y es l h.1)
 
-rise_inserted : (es : List Entry) (k : List ℕ) (v : LastWrite) → Pairs Rise es → Pairs Rise (insert_entry cmp es k v)
+rise_inserted : (es : List Entry) (k : List ℕ) (v : Versioned) → Pairs Rise es → Pairs Rise (insert_entry cmp es k v)
 rise_inserted [] k v h = (tt, tt)
 rise_inserted (e ∷ es) k v h =
     let P : Ordering → Type 0 = λ o. Pairs Rise (match_ordering o ((k, v) ∷ e ∷ es) ((e.0, v) ∷ es) (e ∷ insert_entry cmp es k v)) in
@@ -89,7 +88,7 @@ rise_after table es (p ∷ ps) h = rise_after table (entries_with table es p) ps
 
 -- ---- what the entries have for a key
 
-abbrev found : List ℕ → List Entry → Option LastWrite
+abbrev found : List ℕ → List Entry → Option Versioned
 found q [] = None
 found q (e ∷ es) = if same_key q e.0 then Some e.1 else found q es
 
@@ -99,7 +98,7 @@ same_if q k a b s = elim (same_key_tells q k) [ inl e ↦ rw e.0 refl | inr e �
 other_if : {X : Type 0} (q k : List ℕ) (a b : X) → q ≢ k → (if same_key q k then a else b) ≡ b
 other_if q k a b ne = elim (same_key_tells q k) [ inl e ↦ absurd (ne e.1) | inr e ↦ rw e.0 refl ]
 
-found_inserted : (q : List ℕ) (es : List Entry) (k : List ℕ) (v : LastWrite) → found q (insert_entry cmp es k v) ≡ (if same_key q k then Some v else found q es)
+found_inserted : (q : List ℕ) (es : List Entry) (k : List ℕ) (v : Versioned) → found q (insert_entry cmp es k v) ≡ (if same_key q k then Some v else found q es)
 found_inserted q [] k v = refl
 found_inserted q (e ∷ es) k v =
     let P : Ordering → Type 0 = λ o. found q (match_ordering o ((k, v) ∷ e ∷ es) ((e.0, v) ∷ es) (e ∷ insert_entry cmp es k v)) ≡ (if same_key q k then Some v else found q (e ∷ es)) in
@@ -117,7 +116,7 @@ found_inserted q (e ∷ es) k v =
       twice true = refl
       twice false = refl
 
-abbrev held_of : Option LastWrite → Option Versioned
+abbrev held_of : Option Versioned → Option Versioned
 held_of None = None
 held_of (Some w) = Some (record { num = w.num; body = w.body })
 
@@ -138,14 +137,14 @@ is_sent_as lines table rows p i = sent_as (slice_index_or table p.op unheard).se
 abbrev next_last : List LogLine → List ℕ → Option Versioned → Placed → Option Versioned
 next_last lines q last p = if p.read then last else (if same_key q (key_of lines p.op) then Some (written_by lines p) else last)
 
-held_if : (b : Bool) (w : LastWrite) (o : Option LastWrite) → held_of (if b then Some w else o) ≡ (if b then Some (record { num = w.num; body = w.body }) else held_of o)
+held_if : (b : Bool) (w : Versioned) (o : Option Versioned) → held_of (if b then Some w else o) ≡ (if b then Some (record { num = w.num; body = w.body }) else held_of o)
 held_if true w o = refl
 held_if false w o = refl
 
 next_write : (lines : List LogLine) (table : List Told) (es : List Entry) (p : Placed) (q : List ℕ) (s : IsSentAs lines table p)
     → held_of (found q (with_write es p.num (slice_index_or table p.op unheard).sent)) ≡ (if same_key q (key_of lines p.op) then Some (written_by lines p) else held_of (found q es))
 next_write lines table es p q s =
-    let w : LastWrite = record { num = p.num; body = s.sent.line.body } in
+    let w : Versioned = record { num = p.num; body = s.sent.line.body } in
     let a : held_of (found q (with_write es p.num (slice_index_or table p.op unheard).sent)) ≡ held_of (found q (insert_entry cmp es s.sent.line.key w)) = rw s.row refl in
     let b : held_of (found q (insert_entry cmp es s.sent.line.key w)) ≡ held_of (if same_key q s.sent.line.key then Some w else found q es) = ap held_of (found_inserted q es s.sent.line.key w) in
     let d : (if same_key q (key_of lines p.op) then Some (written_by lines p) else held_of (found q es)) ≡ (if same_key q s.sent.line.key then Some (record { num = p.num; body = s.sent.line.body }) else held_of (found q es)) = rw s.first refl in

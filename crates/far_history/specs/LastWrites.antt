@@ -9,22 +9,22 @@ use Rattle.far_base.specs.declared.log.Placed.{Placed}
 use Rattle.far_model.specs.History.{IsHistory, IsFinalMap}
 use Rattle.far_history.specs.declared.told.Sending.{Sending}
 use Rattle.far_history.specs.declared.told.Told.{Told}
-use Rattle.far_history.specs.declared.last_writes.LastWrite.{LastWrite}
+use Rattle.far_base.specs.declared.record.Versioned.{Versioned}
 use Rattle.far_history.specs.Told.{unheard}
 
-abbrev pub with_write : List (List ℕ × LastWrite) → ℕ → Option Sending → List (List ℕ × LastWrite)
+abbrev pub with_write : List (List ℕ × Versioned) → ℕ → Option Sending → List (List ℕ × Versioned)
 with_write entries num None = entries
 with_write entries num (Some sent) = insert_entry (slice_cmp nat_cmp) entries sent.line.key (record { num = num; body = sent.line.body })
 
 -- the entries of the keys after one more operation of the history
-abbrev pub entries_with : List Told → List (List ℕ × LastWrite) → Placed → List (List ℕ × LastWrite)
+abbrev pub entries_with : List Told → List (List ℕ × Versioned) → Placed → List (List ℕ × Versioned)
 entries_with table entries place = if place.read then entries else with_write entries place.num (slice_index_or table place.op unheard).sent
 
-abbrev pub entries_after : List Told → List (List ℕ × LastWrite) → List Placed → List (List ℕ × LastWrite)
+abbrev pub entries_after : List Told → List (List ℕ × Versioned) → List Placed → List (List ℕ × Versioned)
 entries_after table entries [] = entries
 entries_after table entries (p ∷ ps) = entries_after table (entries_with table entries p) ps
 
-abbrev pub record_of : List ℕ × LastWrite → Record
+abbrev pub record_of : List ℕ × Versioned → Record
 record_of entry = record { key = entry.0; num = entry.1.num; body = entry.1.body }
 
 -- the last writes of the history of a log

@@ -48,7 +48,7 @@ abbrev pub is_control : LogEntry → Bool
 is_control (Admitted slot key tag) = true
 is_control (Evicted slot key tries) = true
 is_control (Kept slot key num) = true
-is_control (Snapped id point count) = true
+is_control (Snapped id point count same) = true
 is_control Stopped = true
 is_control (Recovered counter count) = true
 is_control _ = false
@@ -57,7 +57,7 @@ abbrev pub entry_text : ℕ → LogEntry → List ℕ
 entry_text moment (Admitted slot key tag) = text_line (codes "admitted" ∷ decimal moment ∷ decimal slot ∷ key_text key ∷ decimal tag ∷ [])
 entry_text moment (Evicted slot key tries) = text_line (codes "evicted" ∷ decimal moment ∷ decimal slot ∷ key_text key ∷ decimal tries ∷ [])
 entry_text moment (Kept slot key num) = text_line (codes "kept" ∷ decimal moment ∷ decimal slot ∷ key_text key ∷ decimal num ∷ [])
-entry_text moment (Snapped id point count) = text_line (codes "snapshot" ∷ decimal moment ∷ decimal id ∷ decimal point ∷ decimal count ∷ [])
+entry_text moment (Snapped id point count same) = text_line (codes "snapshot" ∷ decimal moment ∷ decimal id ∷ decimal point ∷ decimal count ∷ [])
 entry_text moment (SnapItem slot item) = text_line (decimal slot ∷ key_text item.key ∷ decimal item.num ∷ body_word item.body ∷ [])
 entry_text moment Stopped = text_line (codes "stopped" ∷ decimal moment ∷ [])
 entry_text moment (Recovered counter count) = text_line (codes "recovered" ∷ decimal moment ∷ decimal counter ∷ decimal count ∷ [])

@@ -1,24 +1,17 @@
-use crate::log::Log;
-use crate::places::places_in;
-use crate::told::{Told, gather, sending_of};
-use far_base::{Body, Key, Memory, Placed, Record};
-use std::alloc::Global;
-use std::collections::BTreeMap;
-
-/// What the last write of a key set it to.
-#[derive(Clone, Copy)]
-pub(crate) struct LastWrite {
-    pub num: u64,
-    pub body: Body,
-}
-
 ghost use Rattle.std.specs.Prelude.{◌≡◌, ◌^◌, ◌≤◌, ℕ, [], map, length, slice_index_or, OnOk, IfOk};
 ghost use Rattle.far_history.specs.Told.{unheard};
 ghost use Rattle.far_history.specs.LastWrites.{entries_with, entries_after, record_of, IsMapOfHistory};
 
+use crate::log::Log;
+use crate::places::places_in;
+use crate::told::{Told, gather, sending_of};
+use far_base::{Key, Memory, Placed, Record, Versioned};
+use std::alloc::Global;
+use std::collections::BTreeMap;
+
 /// Sets the key of the place's operation, if it writes.
 fn note_write(
-    last: &mut BTreeMap<Key, LastWrite>,
+    last: &mut BTreeMap<Key, Versioned>,
     table: &[Told],
     place: &Placed,
 ) -> Result<(), Memory>
@@ -30,7 +23,7 @@ fn note_write(
     let Some(sent) = sending_of(table, place.op) else {
         return Ok(());
     };
-    let write = LastWrite {
+    let write = Versioned {
         num: place.num,
         body: sent.line.body,
     };
@@ -45,7 +38,7 @@ fn writes_of(
     alloc: Global,
     table: &[Told],
     places: &[Placed],
-) -> Result<BTreeMap<Key, LastWrite>, Memory>
+) -> Result<BTreeMap<Key, Versioned>, Memory>
     ensures { IfOk result (λ last. last.entries ≡ entries_after table.now [] places.now) }
 {
     let mut last = BTreeMap::new(alloc);
@@ -56,7 +49,7 @@ fn writes_of(
 }
 
 /// The records of the keys, by key.
-fn records_of(alloc: Global, last: &BTreeMap<Key, LastWrite>) -> Result<Vec<Record>, Memory>
+fn records_of(alloc: Global, last: &BTreeMap<Key, Versioned>) -> Result<Vec<Record>, Memory>
     ensures { IfOk result (λ records. records.items ≡ map record_of last.now.entries) }
 {
     let mut records = Vec::new(alloc);

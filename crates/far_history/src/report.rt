@@ -133,7 +133,12 @@ fn put_entry(alloc: Global, out: &mut Vec<u8>, line: &LogLine) -> Result<(), Mem
         LogEntry::Kept { slot, key, num } => {
             put_slot(alloc, out, b"kept", moment, slot, &key, num)
         }
-        LogEntry::Snapped { id, point, count } => put_numbers(
+        LogEntry::Snapped {
+            id,
+            point,
+            count,
+            ..
+        } => put_numbers(
             alloc,
             out,
             b"snapshot",

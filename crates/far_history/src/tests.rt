@@ -166,6 +166,7 @@ fn control_entries_are_reported_in_their_order(rt: HostRuntime) -> Result<(), Fa
                 id: 1,
                 point: 1,
                 count: 1,
+                same: 0,
             },
         ),
         at(
