@@ -27,7 +27,7 @@ pub use plan::{
     CLIENT_LIMIT, Config, HOT_LIMIT, OP_LIMIT, ORDER_LIMIT, Op, OpLine, Order, PassKind, Plan,
     SERVER_LIMIT, SLOT_LIMIT, SNAP_LIMIT, STEP_LIMIT, STOP_LIMIT,
 };
-pub use record::Record;
+pub use record::{Record, Versioned};
 pub use slot_state::{Due, SlotState};
 
 #[cfg(test)]

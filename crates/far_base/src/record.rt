@@ -10,6 +10,14 @@ pub struct Record {
     pub body: Body,
 }
 
+/// A version of some key: the number of a write, and the body that it set. Number 0 stands for no write, and its
+/// body is absent.
+#[derive(Clone, Copy, Debug, PartialEq, Eq)]
+pub struct Versioned {
+    pub num: u64,
+    pub body: Body,
+}
+
 ghost use Rattle.std.specs.Prelude.{◌<◌, ◌↔◌, IsTrue};
 
 impl Record {
