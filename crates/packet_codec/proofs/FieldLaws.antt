@@ -13,8 +13,8 @@ use Rattle.far_base.specs.declared.key.TheConstants.{KEY_LENGTH}
 use Rattle.far_base.specs.declared.record.Record.{Record}
 use Rattle.packet_codec.specs.declared.fault.BadPacket.{BadPacket}
 use Rattle.packet_codec.specs.declared.fault.BadPacket.TheVariants.{Short, Flag, Pad, Length}
-use Rattle.packet_codec.specs.Reading.{◌then◌, made, taken_at, u16_at, u32_at, u64_at, flag_at, key_of, key_at, limit_of, shown_at, text_behind, body_at, record_of, rec_at, rec_behind, held_at, IsFieldFault}
-use Rattle.packet_codec.specs.Spelling.{Part, ◌and◌, u16_part, u32_part, u64_part, flag_part, key_part, text_part, body_part, rec_part, inner_part, held_part}
+use Rattle.packet_codec.specs.Reading.{◌then◌, made, taken_at, u16_at, u32_at, u64_at, flag_at, key_of, key_at, call_at, limit_of, shown_at, text_behind, body_at, record_of, rec_at, rec_behind, held_at, IsFieldFault}
+use Rattle.packet_codec.specs.Spelling.{Part, ◌and◌, u16_part, u32_part, u64_part, flag_part, key_part, call_part, text_part, body_part, rec_part, inner_part, held_part}
 use Rattle.packet_codec.proofs.Steps.{bind_ok, bind_err, ok_is, ok_err, err_is, passed, met, AreBytes, AreBytes-take, AreBytes-drop, AreBytes-rest, IsMore, more_length, one_cut, err_of_test, err_of_met}
 use Rattle.packet_codec.proofs.Composition.{Takes, IsField, IsBehind, ◌&◌, headed, made_takes, made_again, made_cut, made_faults}
 
@@ -174,6 +174,23 @@ pub field_key : IsField IsFieldFault key_part key_at
 unfolding key_part
 field_key = record { takes = key_takes; again = key_again; cut = key_cut; faults = key_faults }
 
+-- ---- calls
+
+field_triple : IsField IsFieldFault (λ f. u32_part f.0.0 and u32_part f.0.1 and key_part f.1) (u32_at then u32_at then key_at)
+field_triple = field_u32 & field_u32 & field_key
+
+abbrev call_of : (ℕ × ℕ) × List ℕ → ℕ × ℕ × List ℕ
+call_of f = (f.0.0, f.0.1, f.1)
+
+pub field_call : IsField IsFieldFault (λ c. call_part c.0 c.1 c.2) call_at
+unfolding call_part call_at
+field_call = record {
+  takes = made_takes field_triple call_of (λ bytes c rest. Takes bytes (call_part c.0 c.1 c.2) rest) (λ bytes x rest t. t);
+  again = λ c rest h. made_again field_triple call_of ((c.0, c.1), c.2) rest h;
+  cut = λ c front back h e more. made_cut field_triple call_of ((c.0, c.1), c.2) front back h e more;
+  faults = made_faults field_triple call_of;
+}
+
 -- ---- bodies
 
 abbrev head_of : Option (List ℕ) → Bool × ℕ
@@ -232,16 +249,16 @@ field_body = headed (field_flag & field_u16) behind_text
 
 -- ---- records
 
-field_triple : IsField IsFieldFault (λ f. key_part f.0.0 and u64_part f.0.1 and body_part f.1) (key_at then u64_at then body_at)
-field_triple = field_key & field_u64 & field_body
+field_parts : IsField IsFieldFault (λ f. key_part f.0.0 and u64_part f.0.1 and body_part f.1) (key_at then u64_at then body_at)
+field_parts = field_key & field_u64 & field_body
 
 pub field_rec : IsField IsFieldFault rec_part rec_at
 unfolding rec_part rec_at
 field_rec = record {
-  takes = made_takes field_triple record_of (λ bytes r rest. Takes bytes (rec_part r) rest) (λ bytes x rest t. t);
-  again = λ x rest h. made_again field_triple record_of ((x.key, x.num), x.body) rest h;
-  cut = λ x front back h e more. made_cut field_triple record_of ((x.key, x.num), x.body) front back h e more;
-  faults = made_faults field_triple record_of;
+  takes = made_takes field_parts record_of (λ bytes r rest. Takes bytes (rec_part r) rest) (λ bytes x rest t. t);
+  again = λ x rest h. made_again field_parts record_of ((x.key, x.num), x.body) rest h;
+  cut = λ x front back h e more. made_cut field_parts record_of ((x.key, x.num), x.body) front back h e more;
+  faults = made_faults field_parts record_of;
 }
 
 -- ---- what may be there

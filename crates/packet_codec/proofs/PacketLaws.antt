@@ -2,16 +2,17 @@
 use Rattle.std.proofs.Common.{◌≡◌, ℕ, suc, ◌<◌, ◌≤◌, ◌⊎◌, Bool, true, false, cond, eqb, List, [], ◌∷◌, ◌++◌, Ok, Err, inl, inr, refl, subst, ◌∙◌, arith}
 use Rattle.std.proofs.lemmas.Bool.Decides.{nat_tests}
 use Rattle.far_base.specs.declared.packet.Packet.{Packet}
-use Rattle.far_base.specs.declared.packet.Packet.TheVariants.{GetReq, WriteReq, GetFwd, WriteFwd, GetRep, WriteRep, GetAns, WriteAns, Hot, Admit, AdmitAck, Peek, PeekAns, Remove, RemoveAns, SnapStart, SnapBegun, SnapRead, SnapPart, Store, Stored, Release, Ask, Told, TopAsk, TopIs}
+use Rattle.far_base.specs.declared.packet.Packet.TheVariants.{GetReq, WriteReq, GetFwd, WriteFwd, GetRep, WriteRep, GetAns, WriteAns, Hot, Admit, AdmitAck, Peek, PeekAns, Remove, RemoveAns, SnapStart, SnapBegun, SnapRead, SnapPart, Store, Stored, Release, Ask, Told, TopAsk, TopIs, SnapSame, SnapFrom}
 use Rattle.packet_codec.specs.declared.fault.BadPacket.{BadPacket}
 use Rattle.packet_codec.specs.declared.fault.BadPacket.TheVariants as bad
-use Rattle.packet_codec.specs.declared.wire.TheConstants.{VERSION, KIND_COUNT}
+use Rattle.packet_codec.specs.declared.kinds.TheConstants.{GET_REQ, WRITE_REQ, GET_FWD, WRITE_FWD, GET_REP, WRITE_REP, GET_ANS, WRITE_ANS, HOT, ADMIT, ADMIT_ACK, PEEK, PEEK_ANS, REMOVE, REMOVE_ANS, SNAP_START, SNAP_BEGUN, SNAP_READ, SNAP_PART, STORE, STORED, RELEASE, ASK, TOLD, TOP_ASK, TOP_IS, SNAP_SAME, SNAP_FROM, KIND_COUNT}
+use Rattle.packet_codec.specs.declared.wire.TheConstants.{VERSION}
 use Rattle.packet_codec.specs.Reading.{◌into◌, Field, made, byte_at, IsFieldFault}
-use Rattle.packet_codec.specs.Packets.{fields_at, versioned, packet_at, get_req_at, write_req_at, get_fwd_at, write_fwd_at, get_rep_at, write_rep_at, get_ans_at, write_ans_at, hot_at, admit_at, admit_ack_at, peek_at, peek_ans_at, remove_at, remove_ans_at, snap_start_at, snap_begun_at, snap_read_at, snap_part_at, store_at, stored_at, release_at, ask_at, told_at, top_ask_at, top_is_at}
+use Rattle.packet_codec.specs.Packets.{fields_at, versioned, packet_at, get_req_at, write_req_at, get_fwd_at, write_fwd_at, get_rep_at, write_rep_at, get_ans_at, write_ans_at, hot_at, admit_at, admit_ack_at, peek_at, peek_ans_at, remove_at, remove_ans_at, snap_start_at, snap_begun_at, snap_read_at, snap_part_at, store_at, stored_at, release_at, ask_at, told_at, top_ask_at, top_is_at, snap_same_at, snap_from_at}
 use Rattle.packet_codec.specs.Spelling.{Part, ◌and◌, row}
 use Rattle.packet_codec.proofs.Steps.{ok_err, err_is, met, AreBytes, AreBytes-rest, IsMore, one_cut, err_of_met, ok_is}
 use Rattle.packet_codec.proofs.Composition.{Takes, IsField, IsBehind, ◌&◌, headed, made_takes, made_again, made_cut, made_faults}
-use Rattle.packet_codec.proofs.FieldLaws.{field_u32, field_u64, field_flag, field_key, field_body, field_rec, field_held}
+use Rattle.packet_codec.proofs.FieldLaws.{field_u32, field_u64, field_flag, field_key, field_call, field_body, field_rec, field_held}
 
 -- the faults up to the last field
 abbrev pub IsFaultWithin : BadPacket → Type 0
@@ -123,34 +124,36 @@ no_kind n = record {
 
 -- the kinds, each by its fields
 pub kinds : (n : ℕ) → AreKinds 1 n (fields_at n)
-unfolding fields_at get_req_at write_req_at get_fwd_at write_fwd_at get_rep_at write_rep_at get_ans_at write_ans_at hot_at admit_at admit_ack_at peek_at peek_ans_at remove_at remove_ans_at snap_start_at snap_begun_at snap_read_at snap_part_at store_at stored_at release_at ask_at told_at top_ask_at top_is_at
+unfolding fields_at get_req_at write_req_at get_fwd_at write_fwd_at get_rep_at write_rep_at get_ans_at write_ans_at hot_at admit_at admit_ack_at peek_at peek_ans_at remove_at remove_ans_at snap_start_at snap_begun_at snap_read_at snap_part_at store_at stored_at release_at ask_at told_at top_ask_at top_is_at snap_same_at snap_from_at
 kinds n =
-    of_kind 1 (omega arith) _ (field_u32 & field_u32 & field_key) (λ bytes x rest t. (t, refl)) or_else
-    of_kind 2 (omega arith) _ (field_u32 & field_u32 & field_key & field_body) (λ bytes x rest t. (t, refl)) or_else
-    of_kind 3 (omega arith) _ (field_u32 & field_u32 & field_key & field_u64) (λ bytes x rest t. (t, refl)) or_else
-    of_kind 4 (omega arith) _ (field_u32 & field_u32 & field_key & field_u64 & field_body) (λ bytes x rest t. (t, refl)) or_else
-    of_kind 5 (omega arith) _ (field_u32 & field_u32 & field_key & field_u64 & field_u64 & field_body) (λ bytes x rest t. (t, refl)) or_else
-    of_kind 6 (omega arith) _ (field_u32 & field_u32 & field_key & field_u64 & field_body) (λ bytes x rest t. (t, refl)) or_else
-    of_kind 7 (omega arith) _ (field_u32 & field_u32 & field_key & field_u64 & field_body & field_flag) (λ bytes x rest t. (t, refl)) or_else
-    of_kind 8 (omega arith) _ (field_u32 & field_u32 & field_key & field_u64 & field_flag) (λ bytes x rest t. (t, refl)) or_else
-    of_kind 9 (omega arith) _ field_key (λ bytes x rest t. (t, refl)) or_else
-    of_kind 10 (omega arith) _ (field_u32 & field_u32 & field_key & field_u64) (λ bytes x rest t. (t, refl)) or_else
-    of_kind 11 (omega arith) _ (field_u32 & field_u64) (λ bytes x rest t. (t, refl)) or_else
-    of_kind 12 (omega arith) _ (field_u32 & field_u32 & field_u64) (λ bytes x rest t. (t, refl)) or_else
-    of_kind 13 (omega arith) _ (field_u32 & field_u64 & field_flag & field_u64 & field_body) (λ bytes x rest t. (t, refl)) or_else
-    of_kind 14 (omega arith) _ (field_u32 & field_u32 & field_u64 & field_flag & field_u64) (λ bytes x rest t. (t, refl)) or_else
-    of_kind 15 (omega arith) _ (field_u32 & field_u64 & field_flag & field_flag & field_u64 & field_body) (λ bytes x rest t. (t, refl)) or_else
-    of_kind 16 (omega arith) _ (field_u32 & field_u32) (λ bytes x rest t. (t, refl)) or_else
-    of_kind 17 (omega arith) _ (field_u32 & field_u64) (λ bytes x rest t. (t, refl)) or_else
-    of_kind 18 (omega arith) _ (field_u32 & field_u32 & field_u32) (λ bytes x rest t. (t, refl)) or_else
-    of_kind 19 (omega arith) _ (field_u32 & field_u32 & field_held) (λ bytes x rest t. (t, refl)) or_else
-    of_kind 20 (omega arith) _ (field_u64 & field_rec) (λ bytes x rest t. (t, refl)) or_else
-    of_kind 21 (omega arith) _ field_u64 (λ bytes x rest t. (t, refl)) or_else
-    of_kind 22 (omega arith) _ field_u64 (λ bytes x rest t. (t, refl)) or_else
-    of_kind 23 (omega arith) _ field_u32 (λ bytes x rest t. (t, refl)) or_else
-    of_kind 24 (omega arith) _ (field_u32 & field_u32 & field_u32 & field_held) (λ bytes x rest t. (t, refl)) or_else
-    of_kind 25 (omega arith) _ field_u32 (λ bytes x rest t. (t, refl)) or_else
-    of_kind 26 (omega arith) _ (field_u32 & field_u32 & field_u64) (λ bytes x rest t. (t, refl)) or_else
+    of_kind GET_REQ (omega arith) _ field_call (λ bytes x rest t. (t, refl)) or_else
+    of_kind WRITE_REQ (omega arith) _ (field_call & field_body) (λ bytes x rest t. (t, refl)) or_else
+    of_kind GET_FWD (omega arith) _ (field_call & field_u64) (λ bytes x rest t. (t, refl)) or_else
+    of_kind WRITE_FWD (omega arith) _ (field_call & field_u64 & field_body) (λ bytes x rest t. (t, refl)) or_else
+    of_kind GET_REP (omega arith) _ (field_call & field_u64 & field_u64 & field_body) (λ bytes x rest t. (t, refl)) or_else
+    of_kind WRITE_REP (omega arith) _ (field_call & field_u64 & field_body) (λ bytes x rest t. (t, refl)) or_else
+    of_kind GET_ANS (omega arith) _ (field_call & field_u64 & field_body & field_flag) (λ bytes x rest t. (t, refl)) or_else
+    of_kind WRITE_ANS (omega arith) _ (field_call & field_u64 & field_flag) (λ bytes x rest t. (t, refl)) or_else
+    of_kind HOT (omega arith) _ field_key (λ bytes x rest t. (t, refl)) or_else
+    of_kind ADMIT (omega arith) _ (field_u32 & field_u32 & field_key & field_u64) (λ bytes x rest t. (t, refl)) or_else
+    of_kind ADMIT_ACK (omega arith) _ (field_u32 & field_u64) (λ bytes x rest t. (t, refl)) or_else
+    of_kind PEEK (omega arith) _ (field_u32 & field_u32 & field_u64) (λ bytes x rest t. (t, refl)) or_else
+    of_kind PEEK_ANS (omega arith) _ (field_u32 & field_u64 & field_flag & field_u64 & field_body) (λ bytes x rest t. (t, refl)) or_else
+    of_kind REMOVE (omega arith) _ (field_u32 & field_u32 & field_u64 & field_flag & field_u64) (λ bytes x rest t. (t, refl)) or_else
+    of_kind REMOVE_ANS (omega arith) _ (field_u32 & field_u64 & field_flag & field_flag & field_u64 & field_body) (λ bytes x rest t. (t, refl)) or_else
+    of_kind SNAP_START (omega arith) _ (field_u32 & field_u32) (λ bytes x rest t. (t, refl)) or_else
+    of_kind SNAP_BEGUN (omega arith) _ (field_u32 & field_u64) (λ bytes x rest t. (t, refl)) or_else
+    of_kind SNAP_READ (omega arith) _ (field_u32 & field_u32 & field_u32) (λ bytes x rest t. (t, refl)) or_else
+    of_kind SNAP_PART (omega arith) _ (field_u32 & field_u32 & field_held) (λ bytes x rest t. (t, refl)) or_else
+    of_kind STORE (omega arith) _ (field_u64 & field_rec) (λ bytes x rest t. (t, refl)) or_else
+    of_kind STORED (omega arith) _ field_u64 (λ bytes x rest t. (t, refl)) or_else
+    of_kind RELEASE (omega arith) _ field_u64 (λ bytes x rest t. (t, refl)) or_else
+    of_kind ASK (omega arith) _ field_u32 (λ bytes x rest t. (t, refl)) or_else
+    of_kind TOLD (omega arith) _ (field_u32 & field_u32 & field_u32 & field_held) (λ bytes x rest t. (t, refl)) or_else
+    of_kind TOP_ASK (omega arith) _ field_u32 (λ bytes x rest t. (t, refl)) or_else
+    of_kind TOP_IS (omega arith) _ (field_u32 & field_u32 & field_u64) (λ bytes x rest t. (t, refl)) or_else
+    of_kind SNAP_SAME (omega arith) _ (field_u32 & field_u32) (λ bytes x rest t. (t, refl)) or_else
+    of_kind SNAP_FROM (omega arith) _ (field_u32 & field_u32 & field_u32) (λ bytes x rest t. (t, refl)) or_else
     no_kind n
 
 -- ---- one packet
@@ -164,15 +167,15 @@ well f make x = record { again = λ rest h. made_again f make x rest h; cut = λ
 
 -- each kind, by its fields
 well_read : (p : Packet) → IsRead (fields_at (row p).kind) (row p).fields p
-unfolding fields_at get_req_at write_req_at get_fwd_at write_fwd_at get_rep_at write_rep_at get_ans_at write_ans_at hot_at admit_at admit_ack_at peek_at peek_ans_at remove_at remove_ans_at snap_start_at snap_begun_at snap_read_at snap_part_at store_at stored_at release_at ask_at told_at top_ask_at top_is_at
-well_read (GetReq caller op key) = well (field_u32 & field_u32 & field_key) _ ((caller, op), key)
-well_read (WriteReq caller op key body) = well (field_u32 & field_u32 & field_key & field_body) _ (((caller, op), key), body)
-well_read (GetFwd caller op key tag) = well (field_u32 & field_u32 & field_key & field_u64) _ (((caller, op), key), tag)
-well_read (WriteFwd caller op key num body) = well (field_u32 & field_u32 & field_key & field_u64 & field_body) _ ((((caller, op), key), num), body)
-well_read (GetRep caller op key tag num body) = well (field_u32 & field_u32 & field_key & field_u64 & field_u64 & field_body) _ (((((caller, op), key), tag), num), body)
-well_read (WriteRep caller op key num body) = well (field_u32 & field_u32 & field_key & field_u64 & field_body) _ ((((caller, op), key), num), body)
-well_read (GetAns caller op key num body near) = well (field_u32 & field_u32 & field_key & field_u64 & field_body & field_flag) _ (((((caller, op), key), num), body), near)
-well_read (WriteAns caller op key num kept) = well (field_u32 & field_u32 & field_key & field_u64 & field_flag) _ ((((caller, op), key), num), kept)
+unfolding fields_at get_req_at write_req_at get_fwd_at write_fwd_at get_rep_at write_rep_at get_ans_at write_ans_at hot_at admit_at admit_ack_at peek_at peek_ans_at remove_at remove_ans_at snap_start_at snap_begun_at snap_read_at snap_part_at store_at stored_at release_at ask_at told_at top_ask_at top_is_at snap_same_at snap_from_at
+well_read (GetReq caller op key) = well field_call _ (caller, op, key)
+well_read (WriteReq caller op key body) = well (field_call & field_body) _ ((caller, op, key), body)
+well_read (GetFwd caller op key tag) = well (field_call & field_u64) _ ((caller, op, key), tag)
+well_read (WriteFwd caller op key num body) = well (field_call & field_u64 & field_body) _ (((caller, op, key), num), body)
+well_read (GetRep caller op key tag num body) = well (field_call & field_u64 & field_u64 & field_body) _ ((((caller, op, key), tag), num), body)
+well_read (WriteRep caller op key num body) = well (field_call & field_u64 & field_body) _ (((caller, op, key), num), body)
+well_read (GetAns caller op key num body near) = well (field_call & field_u64 & field_body & field_flag) _ ((((caller, op, key), num), body), near)
+well_read (WriteAns caller op key num kept) = well (field_call & field_u64 & field_flag) _ (((caller, op, key), num), kept)
 well_read (Hot key) = well field_key _ key
 well_read (Admit epoch slot key tag) = well (field_u32 & field_u32 & field_key & field_u64) _ (((epoch, slot), key), tag)
 well_read (AdmitAck slot tag) = well (field_u32 & field_u64) _ (slot, tag)
@@ -191,6 +194,8 @@ well_read (Ask round) = well field_u32 _ round
 well_read (Told round caller total item) = well (field_u32 & field_u32 & field_u32 & field_held) _ (((round, caller), total), item)
 well_read (TopAsk round) = well field_u32 _ round
 well_read (TopIs round server top) = well (field_u32 & field_u32 & field_u64) _ ((round, server), top)
+well_read (SnapSame id slot) = well (field_u32 & field_u32) _ (id, slot)
+well_read (SnapFrom epoch id base) = well (field_u32 & field_u32 & field_u32) _ ((epoch, id), base)
 
 behind_kind : IsBehind IsFaultBehind (λ (p : Packet). (row p).kind) (λ (p : Packet). (row p).fields) fields_at
 behind_kind = record {

@@ -6,7 +6,8 @@ use Rattle.std.proofs.Math.ListN.{drop_of_length-le}
 use Rattle.far_base.specs.declared.packet.Packet.{Packet}
 use Rattle.packet_codec.specs.declared.fault.BadPacket.{BadPacket}
 use Rattle.packet_codec.specs.declared.fault.BadPacket.TheVariants as bad
-use Rattle.packet_codec.specs.declared.wire.TheConstants.{VERSION, KIND_COUNT}
+use Rattle.packet_codec.specs.declared.kinds.TheConstants.{KIND_COUNT}
+use Rattle.packet_codec.specs.declared.wire.TheConstants.{VERSION}
 use Rattle.packet_codec.specs.Reading.{◌into◌, Field, byte_at, Reads, IsFieldFault, begins_at}
 use Rattle.packet_codec.specs.Packets.{fields_at, versioned, packet_at, whole, packet_of}
 use Rattle.packet_codec.specs.Spelling.{Part, spelled, Spells, Stands}

@@ -1,7 +1,8 @@
 -- What the faults of a whole packet say of the bytes.
 use Rattle.std.specs.Prelude.{◌≡◌, ◌≢◌, ℕ, ◌<◌, ◌⊎◌, List, [], ◌∷◌, ◌++◌}
 use Rattle.far_base.specs.declared.packet.Packet.{Packet}
-use Rattle.packet_codec.specs.declared.wire.TheConstants.{VERSION, KIND_COUNT}
+use Rattle.packet_codec.specs.declared.kinds.TheConstants.{KIND_COUNT}
+use Rattle.packet_codec.specs.declared.wire.TheConstants.{VERSION}
 use Rattle.packet_codec.specs.Spelling.{Spells}
 
 -- the first byte is there, and is another version's

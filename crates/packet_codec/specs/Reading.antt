@@ -74,6 +74,10 @@ key_of key rest = if is_key key then Ok (key, rest) else Err Pad
 unfoldable pub key_at : Field (List ℕ)
 key_at = taken_at KEY_LENGTH into key_of
 
+-- a caller, the number of its operation, and a key
+unfoldable pub call_at : Field (ℕ × ℕ × List ℕ)
+call_at = made (λ f. (f.0.0, f.0.1, f.1)) (u32_at then u32_at then key_at)
+
 -- the greatest length behind this flag
 abbrev pub limit_of : Bool → ℕ
 limit_of true = BODY_LIMIT

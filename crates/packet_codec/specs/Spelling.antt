@@ -6,7 +6,8 @@ use Rattle.far_base.specs.Padded.{is_there, length_of, text_of}
 use Rattle.far_base.specs.declared.body.TheConstants.{BODY_LIMIT}
 use Rattle.far_base.specs.declared.record.Record.{Record}
 use Rattle.far_base.specs.declared.packet.Packet.{Packet}
-use Rattle.far_base.specs.declared.packet.Packet.TheVariants.{GetReq, WriteReq, GetFwd, WriteFwd, GetRep, WriteRep, GetAns, WriteAns, Hot, Admit, AdmitAck, Peek, PeekAns, Remove, RemoveAns, SnapStart, SnapBegun, SnapRead, SnapPart, Store, Stored, Release, Ask, Told, TopAsk, TopIs}
+use Rattle.far_base.specs.declared.packet.Packet.TheVariants.{GetReq, WriteReq, GetFwd, WriteFwd, GetRep, WriteRep, GetAns, WriteAns, Hot, Admit, AdmitAck, Peek, PeekAns, Remove, RemoveAns, SnapStart, SnapBegun, SnapRead, SnapPart, Store, Stored, Release, Ask, Told, TopAsk, TopIs, SnapSame, SnapFrom}
+use Rattle.packet_codec.specs.declared.kinds.TheConstants.{GET_REQ, WRITE_REQ, GET_FWD, WRITE_FWD, GET_REP, WRITE_REP, GET_ANS, WRITE_ANS, HOT, ADMIT, ADMIT_ACK, PEEK, PEEK_ANS, REMOVE, REMOVE_ANS, SNAP_START, SNAP_BEGUN, SNAP_READ, SNAP_PART, STORE, STORED, RELEASE, ASK, TOLD, TOP_ASK, TOP_IS, SNAP_SAME, SNAP_FROM}
 use Rattle.packet_codec.specs.declared.wire.TheConstants.{VERSION}
 
 -- what stands in a packet: its bytes, and that its value is within its range
@@ -41,6 +42,10 @@ flag_part flag = record { bytes = flag_byte flag ∷ []; in_range = Unit {0} }
 -- the sixteen bytes of a key
 unfoldable pub key_part : List ℕ → Part
 key_part key = record { bytes = key; in_range = IsTrue (is_key key) }
+
+-- a caller, the number of its operation, and a key
+unfoldable pub call_part : ℕ → ℕ → List ℕ → Part
+call_part caller op key = u32_part caller and u32_part op and key_part key
 
 -- the bytes of a body, none where it is absent
 abbrev pub text_part : Option (List ℕ) → Part
@@ -79,32 +84,34 @@ numbered kind fields = record { kind = kind; fields = fields }
 
 -- the format, a row for each kind
 abbrev pub row : Packet → Row
-row (GetReq caller op key) = numbered 1 (u32_part caller and u32_part op and key_part key)
-row (WriteReq caller op key body) = numbered 2 (u32_part caller and u32_part op and key_part key and body_part body)
-row (GetFwd caller op key tag) = numbered 3 (u32_part caller and u32_part op and key_part key and u64_part tag)
-row (WriteFwd caller op key num body) = numbered 4 (u32_part caller and u32_part op and key_part key and u64_part num and body_part body)
-row (GetRep caller op key tag num body) = numbered 5 (u32_part caller and u32_part op and key_part key and u64_part tag and u64_part num and body_part body)
-row (WriteRep caller op key num body) = numbered 6 (u32_part caller and u32_part op and key_part key and u64_part num and body_part body)
-row (GetAns caller op key num body near) = numbered 7 (u32_part caller and u32_part op and key_part key and u64_part num and body_part body and flag_part near)
-row (WriteAns caller op key num kept) = numbered 8 (u32_part caller and u32_part op and key_part key and u64_part num and flag_part kept)
-row (Hot key) = numbered 9 (key_part key)
-row (Admit epoch slot key tag) = numbered 10 (u32_part epoch and u32_part slot and key_part key and u64_part tag)
-row (AdmitAck slot tag) = numbered 11 (u32_part slot and u64_part tag)
-row (Peek epoch slot tag) = numbered 12 (u32_part epoch and u32_part slot and u64_part tag)
-row (PeekAns slot tag latest num body) = numbered 13 (u32_part slot and u64_part tag and flag_part latest and u64_part num and body_part body)
-row (Remove epoch slot tag latest num) = numbered 14 (u32_part epoch and u32_part slot and u64_part tag and flag_part latest and u64_part num)
-row (RemoveAns slot tag done latest num body) = numbered 15 (u32_part slot and u64_part tag and flag_part done and flag_part latest and u64_part num and body_part body)
-row (SnapStart epoch id) = numbered 16 (u32_part epoch and u32_part id)
-row (SnapBegun id point) = numbered 17 (u32_part id and u64_part point)
-row (SnapRead epoch id slot) = numbered 18 (u32_part epoch and u32_part id and u32_part slot)
-row (SnapPart id slot view) = numbered 19 (u32_part id and u32_part slot and held_part view)
-row (Store job item) = numbered 20 (u64_part job and rec_part item)
-row (Stored job) = numbered 21 (u64_part job)
-row (Release point) = numbered 22 (u64_part point)
-row (Ask round) = numbered 23 (u32_part round)
-row (Told round caller total item) = numbered 24 (u32_part round and u32_part caller and u32_part total and held_part item)
-row (TopAsk round) = numbered 25 (u32_part round)
-row (TopIs round server top) = numbered 26 (u32_part round and u32_part server and u64_part top)
+row (GetReq caller op key) = numbered GET_REQ (call_part caller op key)
+row (WriteReq caller op key body) = numbered WRITE_REQ (call_part caller op key and body_part body)
+row (GetFwd caller op key tag) = numbered GET_FWD (call_part caller op key and u64_part tag)
+row (WriteFwd caller op key num body) = numbered WRITE_FWD (call_part caller op key and u64_part num and body_part body)
+row (GetRep caller op key tag num body) = numbered GET_REP (call_part caller op key and u64_part tag and u64_part num and body_part body)
+row (WriteRep caller op key num body) = numbered WRITE_REP (call_part caller op key and u64_part num and body_part body)
+row (GetAns caller op key num body near) = numbered GET_ANS (call_part caller op key and u64_part num and body_part body and flag_part near)
+row (WriteAns caller op key num kept) = numbered WRITE_ANS (call_part caller op key and u64_part num and flag_part kept)
+row (Hot key) = numbered HOT (key_part key)
+row (Admit epoch slot key tag) = numbered ADMIT (u32_part epoch and u32_part slot and key_part key and u64_part tag)
+row (AdmitAck slot tag) = numbered ADMIT_ACK (u32_part slot and u64_part tag)
+row (Peek epoch slot tag) = numbered PEEK (u32_part epoch and u32_part slot and u64_part tag)
+row (PeekAns slot tag latest num body) = numbered PEEK_ANS (u32_part slot and u64_part tag and flag_part latest and u64_part num and body_part body)
+row (Remove epoch slot tag latest num) = numbered REMOVE (u32_part epoch and u32_part slot and u64_part tag and flag_part latest and u64_part num)
+row (RemoveAns slot tag done latest num body) = numbered REMOVE_ANS (u32_part slot and u64_part tag and flag_part done and flag_part latest and u64_part num and body_part body)
+row (SnapStart epoch id) = numbered SNAP_START (u32_part epoch and u32_part id)
+row (SnapBegun id point) = numbered SNAP_BEGUN (u32_part id and u64_part point)
+row (SnapRead epoch id slot) = numbered SNAP_READ (u32_part epoch and u32_part id and u32_part slot)
+row (SnapPart id slot view) = numbered SNAP_PART (u32_part id and u32_part slot and held_part view)
+row (Store job item) = numbered STORE (u64_part job and rec_part item)
+row (Stored job) = numbered STORED (u64_part job)
+row (Release point) = numbered RELEASE (u64_part point)
+row (Ask round) = numbered ASK (u32_part round)
+row (Told round caller total item) = numbered TOLD (u32_part round and u32_part caller and u32_part total and held_part item)
+row (TopAsk round) = numbered TOP_ASK (u32_part round)
+row (TopIs round server top) = numbered TOP_IS (u32_part round and u32_part server and u64_part top)
+row (SnapSame id slot) = numbered SNAP_SAME (u32_part id and u32_part slot)
+row (SnapFrom epoch id base) = numbered SNAP_FROM (u32_part epoch and u32_part id and u32_part base)
 
 -- the version, the kind, the fields in their order and nothing else
 abbrev pub spelled : Packet → Part

@@ -3,8 +3,8 @@ ghost use Rattle.packet_codec.specs.Packets.{packet_of};
 ghost use Rattle.packet_codec.specs.Spelling.{Spells};
 ghost use Rattle.packet_codec.specs.Faults.{HasOtherVersion, HasNoKind, IsLonger};
 
+use crate::by_kind::fields;
 use crate::fault::BadPacket;
-use crate::kinds::fields;
 use crate::reader::Reader;
 use crate::wire::VERSION;
 use far_base::Packet;

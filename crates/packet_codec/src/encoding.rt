@@ -1,22 +1,21 @@
-ghost use Rattle.std.specs.Prelude.{◌≡◌, ◌≤◌, ◌+◌, ℕ, List, [], length};
-ghost use Rattle.far_base.specs.declared.body.TheConstants.{BODY_LIMIT};
+ghost use Rattle.std.specs.Prelude.{◌≡◌, ◌≤◌, ℕ, List, [], length};
+ghost use Rattle.packet_codec.specs.declared.wire.TheConstants.{PACKET_LIMIT};
 ghost use Rattle.packet_codec.specs.Packets.{packet_of};
 ghost use Rattle.packet_codec.specs.Spelling.{Spells};
 
+use crate::kinds::*;
 use crate::wire::Wire;
 use far_base::Packet;
 
 fn put(wire: &mut Wire, packet: &Packet)
     requires { wire.old ≡ [] }
     ensures spelled { Spells wire.new packet.now }
-    ensures short { length wire.new ≤ 45 + BODY_LIMIT }
+    ensures short { length wire.new ≤ PACKET_LIMIT }
 {
     match *packet {
         Packet::GetReq { caller, op, key } => {
-            wire.begin(1);
-            wire.u32(caller);
-            wire.u32(op);
-            wire.key(&key);
+            wire.begin(GET_REQ);
+            wire.call(caller, op, &key);
         }
         Packet::WriteReq {
             caller,
@@ -24,10 +23,8 @@ fn put(wire: &mut Wire, packet: &Packet)
             key,
             body,
         } => {
-            wire.begin(2);
-            wire.u32(caller);
-            wire.u32(op);
-            wire.key(&key);
+            wire.begin(WRITE_REQ);
+            wire.call(caller, op, &key);
             wire.body(&body);
         }
         Packet::GetFwd {
@@ -36,10 +33,8 @@ fn put(wire: &mut Wire, packet: &Packet)
             key,
             tag,
         } => {
-            wire.begin(3);
-            wire.u32(caller);
-            wire.u32(op);
-            wire.key(&key);
+            wire.begin(GET_FWD);
+            wire.call(caller, op, &key);
             wire.u64(tag);
         }
         Packet::WriteFwd {
@@ -49,10 +44,8 @@ fn put(wire: &mut Wire, packet: &Packet)
             num,
             body,
         } => {
-            wire.begin(4);
-            wire.u32(caller);
-            wire.u32(op);
-            wire.key(&key);
+            wire.begin(WRITE_FWD);
+            wire.call(caller, op, &key);
             wire.u64(num);
             wire.body(&body);
         }
@@ -64,10 +57,8 @@ fn put(wire: &mut Wire, packet: &Packet)
             num,
             body,
         } => {
-            wire.begin(5);
-            wire.u32(caller);
-            wire.u32(op);
-            wire.key(&key);
+            wire.begin(GET_REP);
+            wire.call(caller, op, &key);
             wire.u64(tag);
             wire.u64(num);
             wire.body(&body);
@@ -79,10 +70,8 @@ fn put(wire: &mut Wire, packet: &Packet)
             num,
             body,
         } => {
-            wire.begin(6);
-            wire.u32(caller);
-            wire.u32(op);
-            wire.key(&key);
+            wire.begin(WRITE_REP);
+            wire.call(caller, op, &key);
             wire.u64(num);
             wire.body(&body);
         }
@@ -94,10 +83,8 @@ fn put(wire: &mut Wire, packet: &Packet)
             body,
             near,
         } => {
-            wire.begin(7);
-            wire.u32(caller);
-            wire.u32(op);
-            wire.key(&key);
+            wire.begin(GET_ANS);
+            wire.call(caller, op, &key);
             wire.u64(num);
             wire.body(&body);
             wire.flag(near);
@@ -109,15 +96,13 @@ fn put(wire: &mut Wire, packet: &Packet)
             num,
             kept,
         } => {
-            wire.begin(8);
-            wire.u32(caller);
-            wire.u32(op);
-            wire.key(&key);
+            wire.begin(WRITE_ANS);
+            wire.call(caller, op, &key);
             wire.u64(num);
             wire.flag(kept);
         }
         Packet::Hot { key } => {
-            wire.begin(9);
+            wire.begin(HOT);
             wire.key(&key);
         }
         Packet::Admit {
@@ -126,19 +111,19 @@ fn put(wire: &mut Wire, packet: &Packet)
             key,
             tag,
         } => {
-            wire.begin(10);
+            wire.begin(ADMIT);
             wire.u32(epoch);
             wire.u32(slot);
             wire.key(&key);
             wire.u64(tag);
         }
         Packet::AdmitAck { slot, tag } => {
-            wire.begin(11);
+            wire.begin(ADMIT_ACK);
             wire.u32(slot);
             wire.u64(tag);
         }
         Packet::Peek { epoch, slot, tag } => {
-            wire.begin(12);
+            wire.begin(PEEK);
             wire.u32(epoch);
             wire.u32(slot);
             wire.u64(tag);
@@ -150,7 +135,7 @@ fn put(wire: &mut Wire, packet: &Packet)
             num,
             body,
         } => {
-            wire.begin(13);
+            wire.begin(PEEK_ANS);
             wire.u32(slot);
             wire.u64(tag);
             wire.flag(latest);
@@ -164,7 +149,7 @@ fn put(wire: &mut Wire, packet: &Packet)
             latest,
             num,
         } => {
-            wire.begin(14);
+            wire.begin(REMOVE);
             wire.u32(epoch);
             wire.u32(slot);
             wire.u64(tag);
@@ -179,7 +164,7 @@ fn put(wire: &mut Wire, packet: &Packet)
             num,
             body,
         } => {
-            wire.begin(15);
+            wire.begin(REMOVE_ANS);
             wire.u32(slot);
             wire.u64(tag);
             wire.flag(done);
@@ -188,42 +173,42 @@ fn put(wire: &mut Wire, packet: &Packet)
             wire.body(&body);
         }
         Packet::SnapStart { epoch, id } => {
-            wire.begin(16);
+            wire.begin(SNAP_START);
             wire.u32(epoch);
             wire.u32(id);
         }
         Packet::SnapBegun { id, point } => {
-            wire.begin(17);
+            wire.begin(SNAP_BEGUN);
             wire.u32(id);
             wire.u64(point);
         }
         Packet::SnapRead { epoch, id, slot } => {
-            wire.begin(18);
+            wire.begin(SNAP_READ);
             wire.u32(epoch);
             wire.u32(id);
             wire.u32(slot);
         }
         Packet::SnapPart { id, slot, view } => {
-            wire.begin(19);
+            wire.begin(SNAP_PART);
             wire.u32(id);
             wire.u32(slot);
             wire.held(&view);
         }
         Packet::Store { job, item } => {
-            wire.begin(20);
+            wire.begin(STORE);
             wire.u64(job);
             wire.rec(&item);
         }
         Packet::Stored { job } => {
-            wire.begin(21);
+            wire.begin(STORED);
             wire.u64(job);
         }
         Packet::Release { point } => {
-            wire.begin(22);
+            wire.begin(RELEASE);
             wire.u64(point);
         }
         Packet::Ask { round } => {
-            wire.begin(23);
+            wire.begin(ASK);
             wire.u32(round);
         }
         Packet::Told {
@@ -232,21 +217,32 @@ fn put(wire: &mut Wire, packet: &Packet)
             total,
             item,
         } => {
-            wire.begin(24);
+            wire.begin(TOLD);
             wire.u32(round);
             wire.u32(caller);
             wire.u32(total);
             wire.held(&item);
         }
         Packet::TopAsk { round } => {
-            wire.begin(25);
+            wire.begin(TOP_ASK);
             wire.u32(round);
         }
         Packet::TopIs { round, server, top } => {
-            wire.begin(26);
+            wire.begin(TOP_IS);
             wire.u32(round);
             wire.u32(server);
             wire.u64(top);
+        }
+        Packet::SnapSame { id, slot } => {
+            wire.begin(SNAP_SAME);
+            wire.u32(id);
+            wire.u32(slot);
+        }
+        Packet::SnapFrom { epoch, id, base } => {
+            wire.begin(SNAP_FROM);
+            wire.u32(epoch);
+            wire.u32(id);
+            wire.u32(base);
         }
     }
 }
@@ -257,7 +253,7 @@ pub fn encode(packet: &Packet) -> Wire
     ensures only { (bytes : List ℕ) → Spells bytes packet.now → bytes ≡ result }
     // It is read again.
     ensures again { packet_of result ≡ Ok packet.now }
-    ensures short { length result ≤ 45 + BODY_LIMIT }
+    ensures short { length result ≤ PACKET_LIMIT }
 {
     let mut wire = Wire::new();
     put(&mut wire, packet);

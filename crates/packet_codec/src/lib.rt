@@ -3,6 +3,7 @@
 //! Numbers are big-endian.
 #![tactic(auto)]
 
+mod by_kind;
 mod decoding;
 mod encoding;
 mod fault;
@@ -18,8 +19,9 @@ pub use encoding::encode;
 pub use far_base::{Out, Packet};
 pub use fault::BadPacket;
 pub use fields::{read_body, read_key, read_rec};
+pub use kinds::KIND_COUNT;
 pub use laws::spellings_are_one;
-pub use wire::{KIND_COUNT, VERSION, WIRE_SIZE, Wire};
+pub use wire::{PACKET_LIMIT, VERSION, WIRE_SIZE, Wire};
 
 #[cfg(test)]
 mod tests;

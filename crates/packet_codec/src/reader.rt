@@ -1,5 +1,5 @@
 ghost use Rattle.std.specs.Prelude.{◌≡◌, ◌<◌, ◌≤◌, length, take, drop, Some};
-ghost use Rattle.packet_codec.specs.Reading.{Reads, byte_at, taken_at, u16_at, u32_at, u64_at, flag_at, key_at, text_at, body_at, rec_at, held_at};
+ghost use Rattle.packet_codec.specs.Reading.{Reads, byte_at, taken_at, u16_at, u32_at, u64_at, flag_at, key_at, call_at, text_at, body_at, rec_at, held_at};
 
 use crate::fault::BadPacket;
 use far_base::{BODY_LIMIT, Body, KEY_LENGTH, Key, Record};
@@ -72,6 +72,14 @@ impl<'a> Reader<'a> {
     {
         let bytes = self.array::<KEY_LENGTH>()?;
         Key::from_array(bytes).ok_or(BadPacket::Pad)
+    }
+
+    /// A caller, the number of its operation, and a key.
+    #[tactic(auto, unfolding(crate::specs::Reading::call_at))]
+    pub fn call(&mut self) -> Result<(u32, u32, Key), BadPacket>
+        ensures { Reads result self.new.rest.now (call_at self.old.rest.now) }
+    {
+        Ok((self.u32()?, self.u32()?, self.key()?))
     }
 
     fn text(&mut self, len: u16) -> Result<Body, BadPacket>

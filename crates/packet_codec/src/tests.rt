@@ -2,9 +2,9 @@ use super::*;
 use far_base::{Body, Key, Record};
 use std::test::Fail;
 
-const GET: [u8; 26] = *b"\x01\x01\0\0\0\x01\0\0\0\x02a\0\0\0\0\0\0\0\0\0\0\0\0\0\0\0";
+const GET: [u8; 26] = *b"\x02\x01\0\0\0\x01\0\0\0\x02a\0\0\0\0\0\0\0\0\0\0\0\0\0\0\0";
 
-const WRITE: [u8; 30] = *b"\x01\x02\0\0\0\0\0\0\0\x01a\0\0\0\0\0\0\0\0\0\0\0\0\0\0\0\x01\0\x01x";
+const WRITE: [u8; 30] = *b"\x02\x02\0\0\0\0\0\0\0\x01a\0\0\0\0\0\0\0\0\0\0\0\0\0\0\0\x01\0\x01x";
 
 #[test]
 fn two_requests_are_spelled(rt: HostRuntime) -> Result<(), Fail> {
@@ -44,8 +44,9 @@ fn fault_of(bytes: &[u8]) -> Option<BadPacket> {
 #[test]
 fn the_first_fault_decides(rt: HostRuntime) {
     assert_eq!(rt; fault_of(&[]), Some(BadPacket::Short));
-    assert_eq!(rt; fault_of(&[2, 1]), Some(BadPacket::Version));
-    assert_eq!(rt; fault_of(&[1, 27]), Some(BadPacket::Kind));
+    assert_eq!(rt; fault_of(&[1, 1]), Some(BadPacket::Version));
+    assert_eq!(rt; fault_of(&[2, 27]), Some(BadPacket::Short));
+    assert_eq!(rt; fault_of(&[2, 29]), Some(BadPacket::Kind));
     let mut get = GET;
     get[10] = 0;
     assert_eq!(rt; fault_of(&get), Some(BadPacket::Pad));
@@ -53,38 +54,40 @@ fn the_first_fault_decides(rt: HostRuntime) {
     write[26] = 2;
     assert_eq!(rt; fault_of(&write), Some(BadPacket::Flag));
     write[26] = 1;
-    write[28] = 0x81;
+    write[27] = 1;
     assert_eq!(rt; fault_of(&write), Some(BadPacket::Length));
 }
 
 // The numbers in each packet are 1, 2 and so on, in their order.
 const SPELLINGS: [&[u8]; KIND_COUNT as usize] = [
-    b"\x01\x01\0\0\0\x01\0\0\0\x02abcdefghijklmnop",
-    b"\x01\x02\0\0\0\x01\0\0\0\x02abcdefghijklmnop\x01\0\x03xyz",
-    b"\x01\x03\0\0\0\x01\0\0\0\x02abcdefghijklmnop\0\0\0\0\0\0\0\x03",
-    b"\x01\x04\0\0\0\x01\0\0\0\x02abcdefghijklmnop\0\0\0\0\0\0\0\x03\x01\0\x03xyz",
-    b"\x01\x05\0\0\0\x01\0\0\0\x02abcdefghijklmnop\0\0\0\0\0\0\0\x03\0\0\0\0\0\0\0\x04\x01\0\x03xyz",
-    b"\x01\x06\0\0\0\x01\0\0\0\x02abcdefghijklmnop\0\0\0\0\0\0\0\x03\x01\0\x03xyz",
-    b"\x01\x07\0\0\0\x01\0\0\0\x02abcdefghijklmnop\0\0\0\0\0\0\0\x03\x01\0\x03xyz\x01",
-    b"\x01\x08\0\0\0\x01\0\0\0\x02abcdefghijklmnop\0\0\0\0\0\0\0\x03\x01",
-    b"\x01\x09abcdefghijklmnop",
-    b"\x01\x0a\0\0\0\x01\0\0\0\x02abcdefghijklmnop\0\0\0\0\0\0\0\x03",
-    b"\x01\x0b\0\0\0\x01\0\0\0\0\0\0\0\x02",
-    b"\x01\x0c\0\0\0\x01\0\0\0\x02\0\0\0\0\0\0\0\x03",
-    b"\x01\x0d\0\0\0\x01\0\0\0\0\0\0\0\x02\x01\0\0\0\0\0\0\0\x03\x01\0\x03xyz",
-    b"\x01\x0e\0\0\0\x01\0\0\0\x02\0\0\0\0\0\0\0\x03\x01\0\0\0\0\0\0\0\x04",
-    b"\x01\x0f\0\0\0\x01\0\0\0\0\0\0\0\x02\0\x01\0\0\0\0\0\0\0\x03\x01\0\x03xyz",
-    b"\x01\x10\0\0\0\x01\0\0\0\x02",
-    b"\x01\x11\0\0\0\x01\0\0\0\0\0\0\0\x02",
-    b"\x01\x12\0\0\0\x01\0\0\0\x02\0\0\0\x03",
-    b"\x01\x13\0\0\0\x01\0\0\0\x02\x01abcdefghijklmnop\0\0\0\0\0\0\0\x07\x01\0\x03xyz",
-    b"\x01\x14\0\0\0\0\0\0\0\x01abcdefghijklmnop\0\0\0\0\0\0\0\x07\x01\0\x03xyz",
-    b"\x01\x15\0\0\0\0\0\0\0\x01",
-    b"\x01\x16\0\0\0\0\0\0\0\x01",
-    b"\x01\x17\0\0\0\x01",
-    b"\x01\x18\0\0\0\x01\0\0\0\x02\0\0\0\x03\0",
-    b"\x01\x19\0\0\0\x01",
-    b"\x01\x1a\0\0\0\x01\0\0\0\x02\0\0\0\0\0\0\0\x03",
+    b"\x02\x01\0\0\0\x01\0\0\0\x02abcdefghijklmnop",
+    b"\x02\x02\0\0\0\x01\0\0\0\x02abcdefghijklmnop\x01\0\x03xyz",
+    b"\x02\x03\0\0\0\x01\0\0\0\x02abcdefghijklmnop\0\0\0\0\0\0\0\x03",
+    b"\x02\x04\0\0\0\x01\0\0\0\x02abcdefghijklmnop\0\0\0\0\0\0\0\x03\x01\0\x03xyz",
+    b"\x02\x05\0\0\0\x01\0\0\0\x02abcdefghijklmnop\0\0\0\0\0\0\0\x03\0\0\0\0\0\0\0\x04\x01\0\x03xyz",
+    b"\x02\x06\0\0\0\x01\0\0\0\x02abcdefghijklmnop\0\0\0\0\0\0\0\x03\x01\0\x03xyz",
+    b"\x02\x07\0\0\0\x01\0\0\0\x02abcdefghijklmnop\0\0\0\0\0\0\0\x03\x01\0\x03xyz\x01",
+    b"\x02\x08\0\0\0\x01\0\0\0\x02abcdefghijklmnop\0\0\0\0\0\0\0\x03\x01",
+    b"\x02\x09abcdefghijklmnop",
+    b"\x02\x0a\0\0\0\x01\0\0\0\x02abcdefghijklmnop\0\0\0\0\0\0\0\x03",
+    b"\x02\x0b\0\0\0\x01\0\0\0\0\0\0\0\x02",
+    b"\x02\x0c\0\0\0\x01\0\0\0\x02\0\0\0\0\0\0\0\x03",
+    b"\x02\x0d\0\0\0\x01\0\0\0\0\0\0\0\x02\x01\0\0\0\0\0\0\0\x03\x01\0\x03xyz",
+    b"\x02\x0e\0\0\0\x01\0\0\0\x02\0\0\0\0\0\0\0\x03\x01\0\0\0\0\0\0\0\x04",
+    b"\x02\x0f\0\0\0\x01\0\0\0\0\0\0\0\x02\0\x01\0\0\0\0\0\0\0\x03\x01\0\x03xyz",
+    b"\x02\x10\0\0\0\x01\0\0\0\x02",
+    b"\x02\x11\0\0\0\x01\0\0\0\0\0\0\0\x02",
+    b"\x02\x12\0\0\0\x01\0\0\0\x02\0\0\0\x03",
+    b"\x02\x13\0\0\0\x01\0\0\0\x02\x01abcdefghijklmnop\0\0\0\0\0\0\0\x07\x01\0\x03xyz",
+    b"\x02\x14\0\0\0\0\0\0\0\x01abcdefghijklmnop\0\0\0\0\0\0\0\x07\x01\0\x03xyz",
+    b"\x02\x15\0\0\0\0\0\0\0\x01",
+    b"\x02\x16\0\0\0\0\0\0\0\x01",
+    b"\x02\x17\0\0\0\x01",
+    b"\x02\x18\0\0\0\x01\0\0\0\x02\0\0\0\x03\0",
+    b"\x02\x19\0\0\0\x01",
+    b"\x02\x1a\0\0\0\x01\0\0\0\x02\0\0\0\0\0\0\0\x03",
+    b"\x02\x1b\0\0\0\x01\0\0\0\x02",
+    b"\x02\x1c\0\0\0\x01\0\0\0\x02\0\0\0\x03",
 ];
 
 fn counts_up(packet: &Packet) -> bool {
@@ -196,6 +199,12 @@ fn counts_up(packet: &Packet) -> bool {
                 round: 1,
                 server: 2,
                 top: 3
+            }
+            | Packet::SnapSame { id: 1, slot: 2 }
+            | Packet::SnapFrom {
+                epoch: 1,
+                id: 2,
+                base: 3
             }
     )
 }

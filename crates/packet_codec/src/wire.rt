@@ -1,13 +1,16 @@
+use far_base::BODY_LIMIT;
 use std::marker::Model;
 
 /// The first byte of each packet.
-pub const VERSION: u8 = 1;
+pub const VERSION: u8 = 2;
 
-/// The kinds of packets are numbered from 1 to this.
-pub const KIND_COUNT: u8 = 26;
+/// The number of bytes of the longest packet.
+pub const PACKET_LIMIT: usize = 45 + BODY_LIMIT;
 
-/// The number of bytes in a `Wire`, of which the longest packet takes fewer.
-pub const WIRE_SIZE: usize = 192;
+/// The number of bytes in a `Wire`.
+pub const WIRE_SIZE: usize = 64 + BODY_LIMIT;
+
+const _: () = prove!(PACKET_LIMIT == 301 && WIRE_SIZE == 320);
 
 /// The bytes of a packet on its way, in an array with zeros behind them. Contracts see the list of
 /// the bytes.
@@ -35,7 +38,7 @@ impl Model for Wire {
     ghost inverse_ok = { λ a h. let e = wire_is a.len a.bytes h in Prim.rw (e.1, e.0) };
 }
 
-ghost use Rattle.std.specs.Prelude.{◌≡◌, ◌≤◌, ◌+◌, ◌++◌, [], length, take, drop};
+ghost use Rattle.std.specs.Prelude.{◌≡◌, ◌≤◌, ◌+◌, ◌++◌, ◌↔◌, [], length, take, drop, IfSome, IsSome};
 
 fn put_at(out: &mut [u8], at: usize, text: &[u8])
     requires { at + length text.now ≤ length out.old }
@@ -53,6 +56,19 @@ impl Wire {
             len: 0,
             bytes: [0; WIRE_SIZE],
         }
+    }
+
+    /// A wire of these bytes. `None` exactly above `WIRE_SIZE` bytes.
+    pub fn from_bytes(bytes: &[u8]) -> Option<Self>
+        ensures value { IfSome result (λ wire. wire ≡ bytes.now) }
+        ensures short { IsSome result ↔ (length bytes.now ≤ WIRE_SIZE) }
+    {
+        if bytes.len() > WIRE_SIZE {
+            return None;
+        }
+        let mut wire = Self::new();
+        wire.push(bytes);
+        Some(wire)
     }
 
     /// The bytes.

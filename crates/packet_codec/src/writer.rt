@@ -1,7 +1,7 @@
 ghost use Rattle.std.specs.Prelude.{◌≡◌, ◌≤◌, ◌+◌, ◌++◌, [], ◌∷◌, length};
 ghost use Rattle.far_base.specs.declared.body.TheConstants.{BODY_LIMIT};
 ghost use Rattle.packet_codec.specs.declared.wire.TheConstants.{WIRE_SIZE};
-ghost use Rattle.packet_codec.specs.Spelling.{Adds, u16_part, u32_part, u64_part, flag_part, key_part, body_part, rec_part, held_part};
+ghost use Rattle.packet_codec.specs.Spelling.{Adds, u16_part, u32_part, u64_part, flag_part, key_part, call_part, body_part, rec_part, held_part};
 
 use crate::wire::{VERSION, Wire};
 use byteorder::{BigEndian, ByteOrder};
@@ -69,6 +69,18 @@ impl Wire {
         ensures len { length self.new ≡ length self.old + 16 }
     {
         self.push(key.bytes());
+    }
+
+    /// The caller, the number of its operation, and the key.
+    #[tactic(auto, unfolding(crate::specs::Spelling::call_part))]
+    pub(crate) fn call(&mut self, caller: u32, op: u32, key: &Key)
+        requires { length self.old + 24 ≤ WIRE_SIZE }
+        ensures added { Adds self.old self.new (call_part caller op key.now) }
+        ensures len { length self.new ≡ length self.old + 24 }
+    {
+        self.u32(caller);
+        self.u32(op);
+        self.key(key);
     }
 
     /// A flag, the length and the bytes.

@@ -1,0 +1,361 @@
+ghost use Rattle.packet_codec.specs.Reading.{Reads};
+ghost use Rattle.packet_codec.specs.Packets.{fields_at, get_req_at, write_req_at, get_fwd_at, write_fwd_at, get_rep_at, write_rep_at, get_ans_at, write_ans_at, hot_at, admit_at, admit_ack_at, peek_at, peek_ans_at, remove_at, remove_ans_at, snap_start_at, snap_begun_at, snap_read_at, snap_part_at, store_at, stored_at, release_at, ask_at, told_at, top_ask_at, top_is_at, snap_same_at, snap_from_at};
+
+use crate::fault::BadPacket;
+use crate::kinds::*;
+use crate::reader::Reader;
+use far_base::Packet;
+
+#[tactic(auto, unfolding(crate::specs::Packets::get_req_at))]
+fn get_req(reader: &mut Reader) -> Result<Packet, BadPacket>
+    ensures { Reads result reader.new.rest.now (get_req_at reader.old.rest.now) }
+{
+    let (caller, op, key) = reader.call()?;
+    Ok(Packet::GetReq { caller, op, key })
+}
+
+#[tactic(auto, unfolding(crate::specs::Packets::write_req_at))]
+fn write_req(reader: &mut Reader) -> Result<Packet, BadPacket>
+    ensures { Reads result reader.new.rest.now (write_req_at reader.old.rest.now) }
+{
+    let (caller, op, key) = reader.call()?;
+    Ok(Packet::WriteReq {
+        caller,
+        op,
+        key,
+        body: reader.body()?,
+    })
+}
+
+#[tactic(auto, unfolding(crate::specs::Packets::get_fwd_at))]
+fn get_fwd(reader: &mut Reader) -> Result<Packet, BadPacket>
+    ensures { Reads result reader.new.rest.now (get_fwd_at reader.old.rest.now) }
+{
+    let (caller, op, key) = reader.call()?;
+    Ok(Packet::GetFwd {
+        caller,
+        op,
+        key,
+        tag: reader.u64()?,
+    })
+}
+
+#[tactic(auto, unfolding(crate::specs::Packets::write_fwd_at))]
+fn write_fwd(reader: &mut Reader) -> Result<Packet, BadPacket>
+    ensures { Reads result reader.new.rest.now (write_fwd_at reader.old.rest.now) }
+{
+    let (caller, op, key) = reader.call()?;
+    Ok(Packet::WriteFwd {
+        caller,
+        op,
+        key,
+        num: reader.u64()?,
+        body: reader.body()?,
+    })
+}
+
+#[tactic(auto, unfolding(crate::specs::Packets::get_rep_at))]
+fn get_rep(reader: &mut Reader) -> Result<Packet, BadPacket>
+    ensures { Reads result reader.new.rest.now (get_rep_at reader.old.rest.now) }
+{
+    let (caller, op, key) = reader.call()?;
+    Ok(Packet::GetRep {
+        caller,
+        op,
+        key,
+        tag: reader.u64()?,
+        num: reader.u64()?,
+        body: reader.body()?,
+    })
+}
+
+#[tactic(auto, unfolding(crate::specs::Packets::write_rep_at))]
+fn write_rep(reader: &mut Reader) -> Result<Packet, BadPacket>
+    ensures { Reads result reader.new.rest.now (write_rep_at reader.old.rest.now) }
+{
+    let (caller, op, key) = reader.call()?;
+    Ok(Packet::WriteRep {
+        caller,
+        op,
+        key,
+        num: reader.u64()?,
+        body: reader.body()?,
+    })
+}
+
+#[tactic(auto, unfolding(crate::specs::Packets::get_ans_at))]
+fn get_ans(reader: &mut Reader) -> Result<Packet, BadPacket>
+    ensures { Reads result reader.new.rest.now (get_ans_at reader.old.rest.now) }
+{
+    let (caller, op, key) = reader.call()?;
+    Ok(Packet::GetAns {
+        caller,
+        op,
+        key,
+        num: reader.u64()?,
+        body: reader.body()?,
+        near: reader.flag()?,
+    })
+}
+
+#[tactic(auto, unfolding(crate::specs::Packets::write_ans_at))]
+fn write_ans(reader: &mut Reader) -> Result<Packet, BadPacket>
+    ensures { Reads result reader.new.rest.now (write_ans_at reader.old.rest.now) }
+{
+    let (caller, op, key) = reader.call()?;
+    Ok(Packet::WriteAns {
+        caller,
+        op,
+        key,
+        num: reader.u64()?,
+        kept: reader.flag()?,
+    })
+}
+
+#[tactic(auto, unfolding(crate::specs::Packets::hot_at))]
+fn hot(reader: &mut Reader) -> Result<Packet, BadPacket>
+    ensures { Reads result reader.new.rest.now (hot_at reader.old.rest.now) }
+{
+    Ok(Packet::Hot { key: reader.key()? })
+}
+
+#[tactic(auto, unfolding(crate::specs::Packets::admit_at))]
+fn admit(reader: &mut Reader) -> Result<Packet, BadPacket>
+    ensures { Reads result reader.new.rest.now (admit_at reader.old.rest.now) }
+{
+    Ok(Packet::Admit {
+        epoch: reader.u32()?,
+        slot: reader.u32()?,
+        key: reader.key()?,
+        tag: reader.u64()?,
+    })
+}
+
+#[tactic(auto, unfolding(crate::specs::Packets::admit_ack_at))]
+fn admit_ack(reader: &mut Reader) -> Result<Packet, BadPacket>
+    ensures { Reads result reader.new.rest.now (admit_ack_at reader.old.rest.now) }
+{
+    Ok(Packet::AdmitAck {
+        slot: reader.u32()?,
+        tag: reader.u64()?,
+    })
+}
+
+#[tactic(auto, unfolding(crate::specs::Packets::peek_at))]
+fn peek(reader: &mut Reader) -> Result<Packet, BadPacket>
+    ensures { Reads result reader.new.rest.now (peek_at reader.old.rest.now) }
+{
+    Ok(Packet::Peek {
+        epoch: reader.u32()?,
+        slot: reader.u32()?,
+        tag: reader.u64()?,
+    })
+}
+
+#[tactic(auto, unfolding(crate::specs::Packets::peek_ans_at))]
+fn peek_ans(reader: &mut Reader) -> Result<Packet, BadPacket>
+    ensures { Reads result reader.new.rest.now (peek_ans_at reader.old.rest.now) }
+{
+    Ok(Packet::PeekAns {
+        slot: reader.u32()?,
+        tag: reader.u64()?,
+        latest: reader.flag()?,
+        num: reader.u64()?,
+        body: reader.body()?,
+    })
+}
+
+#[tactic(auto, unfolding(crate::specs::Packets::remove_at))]
+fn remove(reader: &mut Reader) -> Result<Packet, BadPacket>
+    ensures { Reads result reader.new.rest.now (remove_at reader.old.rest.now) }
+{
+    Ok(Packet::Remove {
+        epoch: reader.u32()?,
+        slot: reader.u32()?,
+        tag: reader.u64()?,
+        latest: reader.flag()?,
+        num: reader.u64()?,
+    })
+}
+
+#[tactic(auto, unfolding(crate::specs::Packets::remove_ans_at))]
+fn remove_ans(reader: &mut Reader) -> Result<Packet, BadPacket>
+    ensures { Reads result reader.new.rest.now (remove_ans_at reader.old.rest.now) }
+{
+    Ok(Packet::RemoveAns {
+        slot: reader.u32()?,
+        tag: reader.u64()?,
+        done: reader.flag()?,
+        latest: reader.flag()?,
+        num: reader.u64()?,
+        body: reader.body()?,
+    })
+}
+
+#[tactic(auto, unfolding(crate::specs::Packets::snap_start_at))]
+fn snap_start(reader: &mut Reader) -> Result<Packet, BadPacket>
+    ensures { Reads result reader.new.rest.now (snap_start_at reader.old.rest.now) }
+{
+    Ok(Packet::SnapStart {
+        epoch: reader.u32()?,
+        id: reader.u32()?,
+    })
+}
+
+#[tactic(auto, unfolding(crate::specs::Packets::snap_begun_at))]
+fn snap_begun(reader: &mut Reader) -> Result<Packet, BadPacket>
+    ensures { Reads result reader.new.rest.now (snap_begun_at reader.old.rest.now) }
+{
+    Ok(Packet::SnapBegun {
+        id: reader.u32()?,
+        point: reader.u64()?,
+    })
+}
+
+#[tactic(auto, unfolding(crate::specs::Packets::snap_read_at))]
+fn snap_read(reader: &mut Reader) -> Result<Packet, BadPacket>
+    ensures { Reads result reader.new.rest.now (snap_read_at reader.old.rest.now) }
+{
+    Ok(Packet::SnapRead {
+        epoch: reader.u32()?,
+        id: reader.u32()?,
+        slot: reader.u32()?,
+    })
+}
+
+#[tactic(auto, unfolding(crate::specs::Packets::snap_part_at))]
+fn snap_part(reader: &mut Reader) -> Result<Packet, BadPacket>
+    ensures { Reads result reader.new.rest.now (snap_part_at reader.old.rest.now) }
+{
+    Ok(Packet::SnapPart {
+        id: reader.u32()?,
+        slot: reader.u32()?,
+        view: reader.held()?,
+    })
+}
+
+#[tactic(auto, unfolding(crate::specs::Packets::store_at))]
+fn store(reader: &mut Reader) -> Result<Packet, BadPacket>
+    ensures { Reads result reader.new.rest.now (store_at reader.old.rest.now) }
+{
+    Ok(Packet::Store {
+        job: reader.u64()?,
+        item: reader.rec()?,
+    })
+}
+
+#[tactic(auto, unfolding(crate::specs::Packets::stored_at))]
+fn stored(reader: &mut Reader) -> Result<Packet, BadPacket>
+    ensures { Reads result reader.new.rest.now (stored_at reader.old.rest.now) }
+{
+    Ok(Packet::Stored { job: reader.u64()? })
+}
+
+#[tactic(auto, unfolding(crate::specs::Packets::release_at))]
+fn release(reader: &mut Reader) -> Result<Packet, BadPacket>
+    ensures { Reads result reader.new.rest.now (release_at reader.old.rest.now) }
+{
+    Ok(Packet::Release {
+        point: reader.u64()?,
+    })
+}
+
+#[tactic(auto, unfolding(crate::specs::Packets::ask_at))]
+fn ask(reader: &mut Reader) -> Result<Packet, BadPacket>
+    ensures { Reads result reader.new.rest.now (ask_at reader.old.rest.now) }
+{
+    Ok(Packet::Ask {
+        round: reader.u32()?,
+    })
+}
+
+#[tactic(auto, unfolding(crate::specs::Packets::told_at))]
+fn told(reader: &mut Reader) -> Result<Packet, BadPacket>
+    ensures { Reads result reader.new.rest.now (told_at reader.old.rest.now) }
+{
+    Ok(Packet::Told {
+        round: reader.u32()?,
+        caller: reader.u32()?,
+        total: reader.u32()?,
+        item: reader.held()?,
+    })
+}
+
+#[tactic(auto, unfolding(crate::specs::Packets::top_ask_at))]
+fn top_ask(reader: &mut Reader) -> Result<Packet, BadPacket>
+    ensures { Reads result reader.new.rest.now (top_ask_at reader.old.rest.now) }
+{
+    Ok(Packet::TopAsk {
+        round: reader.u32()?,
+    })
+}
+
+#[tactic(auto, unfolding(crate::specs::Packets::top_is_at))]
+fn top_is(reader: &mut Reader) -> Result<Packet, BadPacket>
+    ensures { Reads result reader.new.rest.now (top_is_at reader.old.rest.now) }
+{
+    Ok(Packet::TopIs {
+        round: reader.u32()?,
+        server: reader.u32()?,
+        top: reader.u64()?,
+    })
+}
+
+#[tactic(auto, unfolding(crate::specs::Packets::snap_same_at))]
+fn snap_same(reader: &mut Reader) -> Result<Packet, BadPacket>
+    ensures { Reads result reader.new.rest.now (snap_same_at reader.old.rest.now) }
+{
+    Ok(Packet::SnapSame {
+        id: reader.u32()?,
+        slot: reader.u32()?,
+    })
+}
+
+#[tactic(auto, unfolding(crate::specs::Packets::snap_from_at))]
+fn snap_from(reader: &mut Reader) -> Result<Packet, BadPacket>
+    ensures { Reads result reader.new.rest.now (snap_from_at reader.old.rest.now) }
+{
+    Ok(Packet::SnapFrom {
+        epoch: reader.u32()?,
+        id: reader.u32()?,
+        base: reader.u32()?,
+    })
+}
+
+/// The fields of the kind of this number.
+#[tactic(auto, unfolding(crate::specs::Packets::fields_at))]
+pub fn fields(kind: u8, reader: &mut Reader) -> Result<Packet, BadPacket>
+    ensures { Reads result reader.new.rest.now (fields_at kind reader.old.rest.now) }
+{
+    match kind {
+        GET_REQ => get_req(reader),
+        WRITE_REQ => write_req(reader),
+        GET_FWD => get_fwd(reader),
+        WRITE_FWD => write_fwd(reader),
+        GET_REP => get_rep(reader),
+        WRITE_REP => write_rep(reader),
+        GET_ANS => get_ans(reader),
+        WRITE_ANS => write_ans(reader),
+        HOT => hot(reader),
+        ADMIT => admit(reader),
+        ADMIT_ACK => admit_ack(reader),
+        PEEK => peek(reader),
+        PEEK_ANS => peek_ans(reader),
+        REMOVE => remove(reader),
+        REMOVE_ANS => remove_ans(reader),
+        SNAP_START => snap_start(reader),
+        SNAP_BEGUN => snap_begun(reader),
+        SNAP_READ => snap_read(reader),
+        SNAP_PART => snap_part(reader),
+        STORE => store(reader),
+        STORED => stored(reader),
+        RELEASE => release(reader),
+        ASK => ask(reader),
+        TOLD => told(reader),
+        TOP_ASK => top_ask(reader),
+        TOP_IS => top_is(reader),
+        SNAP_SAME => snap_same(reader),
+        SNAP_FROM => snap_from(reader),
+        _ => Err(BadPacket::Kind),
+    }
+}
