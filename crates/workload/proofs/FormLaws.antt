@@ -9,15 +9,17 @@ use Rattle.far_base.specs.Limits.{FitsOp}
 use Rattle.far_base.specs.declared.plan.Op.{Op}
 use Rattle.far_base.specs.declared.plan.Op.TheVariants.{Get as GetOp, Put as PutOp, Del as DelOp}
 use Rattle.far_base.specs.declared.plan.Order.{Order}
-use Rattle.far_base.specs.declared.plan.Order.TheVariants.{Admit as AdmitOrder, Evict as EvictOrder, Snap as SnapOrder, Stop as StopOrder}
-use Rattle.workload.specs.Forms.{Form, OfOp, OfOrder, OfPicks, OfRandom, an_op, form_by, form_of}
+use Rattle.far_base.specs.declared.plan.Order.TheVariants.{Admit as AdmitOrder, Evict as EvictOrder, Snap as SnapOrder, Stop as StopOrder, StopAt as StopAtOrder}
+use Rattle.workload.specs.Forms.{Form, OfOp, OfOrder, OfPicks, OfRandom, an_op, stop_by, stop_of, form_by, form_of}
+use Rattle.workload.specs.Kinds.{kind_name, kind_of}
 use Rattle.workload.specs.Meaning.{IsNumber, IsKey, IsOpForm, IsOrderForm, AreNumbers, IsForm}
 use Rattle.workload.specs.Outcome.{◌>>=◌}
 use Rattle.workload.specs.Spelling.{number_key_text, verb_text, body_text, op_text, order_text, spaced, form_text}
 use Rattle.workload.specs.Words.{lacks, pieces, cut_at, number_of, numbers_of, verb_of, number_and_key, put_words}
 use Rattle.workload.specs.declared.words.Verb.{Verb}
 use Rattle.workload.specs.declared.words.Verb.TheVariants.{Get, Put, Del, Admit, Evict, Snap, Stop, Picks, Random}
-use Rattle.workload.proofs.Spelled.{some_is, bind_some, lacks_join, visible_lacks, cut_takes, number_is, number_lacks, key_lacks, number_key_words, number_key_is, put_text, put_is, numbers_text, numbers_is}
+use Rattle.workload.proofs.Spelled.{some_is, bind_some, lacks_join, visible_lacks, cut_takes, cut_again, cut_none, number_is, number_lacks, key_lacks, number_key_words, number_key_is, put_text, put_is, numbers_text, numbers_is}
+use Rattle.workload.proofs.KindLaws.{kind_takes, kind_again, kind_lacks}
 
 -- ---- the first word
 
@@ -58,6 +60,21 @@ numbers_end : (ns : List ℕ) → 1 ≤ length ns → 32 ∷ numbers_text ns ≡
 numbers_end [] h = absurd (omega (arith, h))
 numbers_end (n ∷ ns) h = refl
 
+abbrev IsStopSpelled : List ℕ → Order → Type 0
+IsStopSpelled words order = (codes "stop " ++ words ≡ order_text order) × IsOrderForm order
+
+stop_takes : (words : List ℕ) (cut : Option (List ℕ × List ℕ)) (order : Order) → cut_at 32 words ≡ cut → stop_by words cut ≡ Some order → IsStopSpelled words order
+stop_takes words None order c e =
+    let a = bind_some (number_of words) (λ n. Some (StopOrder n)) order e in
+    let r = number_is.takes words a.0 a.1 in
+    subst (IsStopSpelled words) (some_is _ order a.2) (ap (λ (l : List ℕ). codes "stop " ++ l) r.0, r.1)
+stop_takes words (Some x) order c e =
+    let a = bind_some (kind_of x.0) (λ kind. number_of x.1 >>= λ times. Some (StopAtOrder kind times)) order e in
+    let b = bind_some (number_of x.1) (λ times. Some (StopAtOrder a.0 times)) order a.2 in
+    let r = number_is.takes x.1 b.0 b.1 in
+    let spelled : words ≡ kind_name a.0 ++ 32 ∷ decimal b.0 = cut_takes 32 words x c ∙ ap (λ (l : List ℕ). l ++ 32 ∷ x.1) (kind_takes x.0 a.0 a.1) ∙ ap (λ (l : List ℕ). kind_name a.0 ++ 32 ∷ l) r.0 in
+    subst (IsStopSpelled words) (some_is _ order b.2) (ap (λ (l : List ℕ). codes "stop " ++ l) spelled, r.1)
+
 by_takes : (verb : Verb) (words : List ℕ) (form : Form) → form_by verb words ≡ Some form → IsSpelled verb words form
 by_takes Get words form e =
     let a = bind_some (number_and_key words) (λ f. Some (OfOp (an_op GetOp f.0 f.1 None))) form e in
@@ -87,9 +104,8 @@ by_takes Snap words form e =
     let r = number_is.takes words a.0 a.1 in
     subst (IsSpelled Snap words) (some_is _ form a.2) (ap (λ (l : List ℕ). codes "snap " ++ l) r.0, r.1)
 by_takes Stop words form e =
-    let a = bind_some (number_of words) (λ n. Some (OfOrder (StopOrder n))) form e in
-    let r = number_is.takes words a.0 a.1 in
-    subst (IsSpelled Stop words) (some_is _ form a.2) (ap (λ (l : List ℕ). codes "stop " ++ l) r.0, r.1)
+    let a = bind_some (stop_of words) (λ order. Some (OfOrder order)) form e in
+    subst (IsSpelled Stop words) (some_is _ form a.2) (stop_takes words (cut_at 32 words) a.0 refl a.1)
 by_takes Picks words form e =
     let a = bind_some (numbers_of (pieces 32 words)) (λ ns. Some (OfPicks ns)) form e in
     let r = numbers_is.takes words a.0 a.1 in
@@ -120,7 +136,8 @@ order_again : (order : Order) → IsOrderForm order → form_of (order_text orde
 order_again (AdmitOrder step key) h = rw (number_key_is.again (step, key) h) refl
 order_again (EvictOrder step key) h = rw (number_key_is.again (step, key) h) refl
 order_again (SnapOrder step) h = rw (number_is.again step h) refl
-order_again (StopOrder step) h = rw (number_is.again step h) refl
+order_again (StopOrder step) h = rw (cut_none 32 (decimal step) (number_lacks 32 step (omega arith) h), number_is.again step h) refl
+order_again (StopAtOrder kind times) h = rw (cut_again 32 (kind_name kind) (decimal times) (kind_lacks kind).1, kind_again kind, number_is.again times h) refl
 
 picks_again : (ns : List ℕ) → AreNumbers ns → form_of (codes "picks" ++ spaced ns) ≡ Some (OfPicks ns)
 picks_again ns h = rw (← numbers_end ns h.0, numbers_is.again ns h) refl
@@ -152,6 +169,7 @@ order_lacks (AdmitOrder step key) h = number_key_lacks (codes "admit ") step key
 order_lacks (EvictOrder step key) h = number_key_lacks (codes "evict ") step key refl h.0 h.1
 order_lacks (SnapOrder step) h = number_lacks 10 step (omega arith) h
 order_lacks (StopOrder step) h = number_lacks 10 step (omega arith) h
+order_lacks (StopAtOrder kind times) h = lacks_join 10 (kind_name kind) (32 ∷ decimal times) (kind_lacks kind).0 (number_lacks 10 times (omega arith) h)
 
 spaced_lacks : (ns : List ℕ) → AllByRecursion IsNumber ns → lacks 10 (spaced ns) ≡ true
 spaced_lacks [] h = refl

@@ -7,6 +7,7 @@ pub mod Heads
 pub mod RowLaws
 pub mod Chained
 pub mod Spelled
+pub mod KindLaws
 pub mod FormLaws
 pub mod LineLaws
 pub mod HeadLaws

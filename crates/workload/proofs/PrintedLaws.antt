@@ -4,12 +4,12 @@ use Rattle.std.specs.Prelude.{Option, Some, None}
 use Rattle.std.specs.List.{flat_map, AllByRecursion}
 use Rattle.std.proofs.lemmas.Grind.{flat_map-append}
 use Rattle.std.proofs.lemmas.List.{append-nil}
-use Rattle.far_base.specs.Limits.{IsOpLine, due_step}
+use Rattle.far_base.specs.Limits.{IsOpLine, due_number}
 use Rattle.far_base.specs.Padded.{length_of}
 use Rattle.far_base.specs.declared.body.TheConstants.{BODY_LIMIT}
 use Rattle.far_base.specs.declared.plan.OpLine.{OpLine}
 use Rattle.far_base.specs.declared.plan.Order.{Order}
-use Rattle.far_base.specs.declared.plan.Order.TheVariants.{Admit, Evict, Snap, Stop}
+use Rattle.far_base.specs.declared.plan.Order.TheVariants.{Admit, Evict, Snap, Stop, StopAt}
 use Rattle.far_base.specs.declared.plan.TheConstants.{CLIENT_LIMIT, STEP_LIMIT}
 use Rattle.workload.specs.Forms.{Form, OfOp, OfOrder, OfPicks}
 use Rattle.workload.specs.Meaning.{IsNumber, IsForm, IsOrderForm, AreNumbers, IsWholeOp, IsWholeOrder, op_in, order_in, picks_in, random_in, starts, Name, IsReading}
@@ -73,13 +73,14 @@ ops_fit clients (op ∷ ops) few h k =
     let client : IsNumber op.client = omega (arith, few, h.0.client) in
     (record { client = client; key = k.0.key; body = h.0.body }, ops_fit clients ops few h.1 k.1)
 
-order_fits : (order : Order) → due_step order ≤ STEP_LIMIT → IsWholeOrder order → IsOrderForm order
+order_fits : (order : Order) → due_number order ≤ STEP_LIMIT → IsWholeOrder order → IsOrderForm order
 order_fits (Admit step key) h k = (h, k)
 order_fits (Evict step key) h k = (h, k)
 order_fits (Snap step) h k = h
 order_fits (Stop step) h k = h
+order_fits (StopAt kind times) h k = h
 
-orders_fit : (orders : List Order) → AllByRecursion (λ order. due_step order ≤ STEP_LIMIT) orders → AllByRecursion IsWholeOrder orders → AllByRecursion IsForm (map OfOrder orders)
+orders_fit : (orders : List Order) → AllByRecursion (λ order. due_number order ≤ STEP_LIMIT) orders → AllByRecursion IsWholeOrder orders → AllByRecursion IsForm (map OfOrder orders)
 orders_fit [] h k = tt
 orders_fit (order ∷ orders) h k = (order_fits order h.0 k.0, orders_fit orders h.1 k.1)
 

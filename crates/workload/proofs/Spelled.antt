@@ -3,7 +3,7 @@ use Rattle.std.proofs.Common.{◌≡◌, ℕ, zero, suc, ◌-◌, ◌^◌, ◌<�
 use Rattle.std.specs.Prelude.{Option, Some, None, IsTrue, nat_eq, nat_le, decimal}
 use Rattle.std.specs.List.{list_all, AllByRecursion}
 use Rattle.std.proofs.lemmas.Bool.Decides.{nat_tests}
-use Rattle.std.proofs.lemmas.List.{append-nil, take_at, drop_at, take-append-drop}
+use Rattle.std.proofs.lemmas.List.{append-nil, take_at, drop_at, drop_all, take-append-drop}
 use Rattle.far_base.specs.Key.{is_visible, is_key_text, is_key, all_zero, visible_then_zeros, starts_visible, key_text}
 use Rattle.far_base.specs.Padded.{padded}
 use Rattle.far_base.specs.declared.key.TheConstants.{KEY_LENGTH}
@@ -64,6 +64,15 @@ until_word mark (b ∷ bs) rest h =
 
 pub cut_again : (mark : ℕ) (w rest : List ℕ) → lacks mark w ≡ true → cut_at mark (w ++ mark ∷ rest) ≡ Some (w, rest)
 cut_again mark w rest h = rw (until_word mark w rest h, take_at w (mark ∷ rest) (length w) refl, drop_at w (mark ∷ rest) (length w) refl) refl
+
+until_none : (mark : ℕ) (w : List ℕ) → lacks mark w ≡ true → until mark w ≡ length w
+until_none mark [] h = refl
+until_none mark (b ∷ bs) h =
+    let a : (not (nat_eq b mark) ≡ true) × (lacks mark bs ≡ true) = and_true _ _ h in
+    rw (other b mark a.0) (ap suc (until_none mark bs a.1))
+
+pub cut_none : (mark : ℕ) (w : List ℕ) → lacks mark w ≡ true → cut_at mark w ≡ None
+cut_none mark w h = rw (until_none mark w h, drop_all (length w) w (omega arith)) refl
 
 stops : (mark : ℕ) (bytes : List ℕ) (e : ℕ) (rest : List ℕ) → drop (until mark bytes) bytes ≡ e ∷ rest → e ≡ mark
 stops mark [] e rest h = absurd cc

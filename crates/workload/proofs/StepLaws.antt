@@ -5,13 +5,13 @@ use Rattle.std.specs.List.{flat_map, count_by, AllByRecursion}
 use Rattle.std.proofs.lemmas.Bool.Decides.{nat_tests}
 use Rattle.std.proofs.lemmas.List.{append-nil, length-append}
 use Rattle.std.proofs.lemmas.List.Sums.{sum_by-append}
-use Rattle.far_base.specs.Limits.{IsOpLine, IsPlan, due_step, is_slot_order, is_snap, is_stop}
+use Rattle.far_base.specs.Limits.{IsOpLine, IsPlan, due_number, is_slot_order, is_snap, is_stop}
 use Rattle.far_base.specs.Padded.{length_of}
 use Rattle.far_base.specs.declared.body.TheConstants.{BODY_LIMIT}
 use Rattle.far_base.specs.declared.plan.Config.{Config}
 use Rattle.far_base.specs.declared.plan.OpLine.{OpLine}
 use Rattle.far_base.specs.declared.plan.Order.{Order}
-use Rattle.far_base.specs.declared.plan.Order.TheVariants.{Admit, Evict, Snap, Stop}
+use Rattle.far_base.specs.declared.plan.Order.TheVariants.{Admit, Evict, Snap, Stop, StopAt}
 use Rattle.far_base.specs.declared.plan.TheConstants.{OP_LIMIT, ORDER_LIMIT, SNAP_LIMIT, STOP_LIMIT, STEP_LIMIT}
 use Rattle.workload.specs.Forms.{Form, OfOp, OfOrder, OfPicks, OfRandom, with_op, with_order, with_picks, with_random, op_counted, op_short, op_step, passed, unless, order_step, picks_step, random_by, step}
 use Rattle.workload.specs.Meaning.{IsNumber, IsOpForm, IsOrderForm, IsForm, op_in, order_in, picks_in, random_in, starts, IsWithin}
@@ -114,6 +114,10 @@ room_takes orders (Stop step) h e =
     let a : nat_lt (count_by is_stop orders) STOP_LIMIT ≡ true = none_or _ Stops e in
     let b : count_by is_stop orders < STOP_LIMIT = grind (arith, nat_tests) in
     record { slot_orders = omega (arith, h.slot_orders, count_join is_slot_order orders (Stop step ∷ [])); snaps = omega (arith, h.snaps, count_join is_snap orders (Stop step ∷ [])); stops = omega (arith, b, count_join is_stop orders (Stop step ∷ [])) }
+room_takes orders (StopAt kind times) h e =
+    let a : nat_lt (count_by is_stop orders) STOP_LIMIT ≡ true = none_or _ Stops e in
+    let b : count_by is_stop orders < STOP_LIMIT = grind (arith, nat_tests) in
+    record { slot_orders = omega (arith, h.slot_orders, count_join is_slot_order orders (StopAt kind times ∷ [])); snaps = omega (arith, h.snaps, count_join is_snap orders (StopAt kind times ∷ [])); stops = omega (arith, b, count_join is_stop orders (StopAt kind times ∷ [])) }
 
 room_again : (orders : List Order) (order : Order) (rest : List Order) → AreFew (orders ++ order ∷ rest) → passed orders order ≡ None
 room_again orders (Admit step key) rest h =
@@ -132,12 +136,17 @@ room_again orders (Stop step) rest h =
     let c : count_by is_stop orders < STOP_LIMIT = omega (arith, h.stops, count_join is_stop orders (Stop step ∷ rest), count_join is_stop (Stop step ∷ []) rest) in
     let a : nat_lt (count_by is_stop orders) STOP_LIMIT ≡ true = grind (arith, nat_tests) in
     rw a refl
+room_again orders (StopAt kind times) rest h =
+    let c : count_by is_stop orders < STOP_LIMIT = omega (arith, h.stops, count_join is_stop orders (StopAt kind times ∷ rest), count_join is_stop (StopAt kind times ∷ []) rest) in
+    let a : nat_lt (count_by is_stop orders) STOP_LIMIT ≡ true = grind (arith, nat_tests) in
+    rw a refl
 
-order_due : (order : Order) → IsOrderForm order → due_step order ≤ STEP_LIMIT
+order_due : (order : Order) → IsOrderForm order → due_number order ≤ STEP_LIMIT
 order_due (Admit step key) h = h.0
 order_due (Evict step key) h = h.0
 order_due (Snap step) h = h
 order_due (Stop step) h = h
+order_due (StopAt kind times) h = h
 
 none_passed : (n : ℕ) (limit : Option Limit) (x w : WorkView) → unless n limit x ≡ Ok w → (limit ≡ None) × (x ≡ w)
 none_passed n None x w e = (refl, same_ok x w e)
@@ -156,7 +165,7 @@ order_takes n v w order e f h =
       slot_orders = r.slot_orders;
       snaps = r.snaps;
       stops = r.stops;
-      steps = all_join (λ order. due_step order ≤ STEP_LIMIT) v.plan.orders (order ∷ []) h.plain.plan.steps (order_due order f, tt);
+      steps = all_join (λ order. due_number order ≤ STEP_LIMIT) v.plan.orders (order ∷ []) h.plain.plan.steps (order_due order f, tt);
     } in
     let within : IsWithin (with_order v order) = record { plain = record { plan = plan; count = h.plain.count; picks = h.plain.picks; random = h.plain.random }; bodies = h.bodies } in
     subst (λ (y : WorkView). Result_of v y (OfOrder order)) a.1 (adds, within)

@@ -8,8 +8,9 @@ use Rattle.far_base.specs.declared.plan.Op.{Op}
 use Rattle.far_base.specs.declared.plan.Op.TheVariants.{Get as GetOp, Put as PutOp, Del as DelOp}
 use Rattle.far_base.specs.declared.plan.OpLine.{OpLine}
 use Rattle.far_base.specs.declared.plan.Order.{Order}
-use Rattle.far_base.specs.declared.plan.Order.TheVariants.{Admit as AdmitOrder, Evict as EvictOrder, Snap as SnapOrder, Stop as StopOrder}
+use Rattle.far_base.specs.declared.plan.Order.TheVariants.{Admit as AdmitOrder, Evict as EvictOrder, Snap as SnapOrder, Stop as StopOrder, StopAt as StopAtOrder}
 use Rattle.far_base.specs.declared.plan.TheConstants.{OP_LIMIT, ORDER_LIMIT, SNAP_LIMIT, STOP_LIMIT}
+use Rattle.workload.specs.Kinds.{kind_of}
 use Rattle.workload.specs.Outcome.{◌>>=◌}
 use Rattle.workload.specs.Words.{cut_at, pieces, number_of, numbers_of, verb_of, number_and_key, put_words}
 use Rattle.workload.specs.WorkView.{WorkView}
@@ -31,6 +32,14 @@ pub data Form : Type 0 where
 abbrev pub an_op : Op → ℕ → List ℕ → Option (List ℕ) → OpLine
 an_op op client key body = record { client = client; op = op; key = key; body = body }
 
+-- a stop at a step, or at a packet of a kind: the first of two words names the kind
+abbrev pub stop_by : List ℕ → Option (List ℕ × List ℕ) → Option Order
+stop_by words None = number_of words >>= λ step. Some (StopOrder step)
+stop_by words (Some c) = kind_of c.0 >>= λ kind. number_of c.1 >>= λ times. Some (StopAtOrder kind times)
+
+abbrev pub stop_of : List ℕ → Option Order
+stop_of words = stop_by words (cut_at 32 words)
+
 -- what the words behind the first one say
 abbrev pub form_by : Verb → List ℕ → Option Form
 form_by Get words = number_and_key words >>= λ f. Some (OfOp (an_op GetOp f.0 f.1 None))
@@ -39,7 +48,7 @@ form_by Del words = number_and_key words >>= λ f. Some (OfOp (an_op DelOp f.0 f
 form_by Admit words = number_and_key words >>= λ f. Some (OfOrder (AdmitOrder f.0 f.1))
 form_by Evict words = number_and_key words >>= λ f. Some (OfOrder (EvictOrder f.0 f.1))
 form_by Snap words = number_of words >>= λ step. Some (OfOrder (SnapOrder step))
-form_by Stop words = number_of words >>= λ step. Some (OfOrder (StopOrder step))
+form_by Stop words = stop_of words >>= λ order. Some (OfOrder order)
 form_by Picks words = numbers_of (pieces 32 words) >>= λ ns. Some (OfPicks ns)
 form_by Random words = number_of words >>= λ n. Some (OfRandom n)
 
@@ -76,6 +85,7 @@ passed orders (AdmitOrder step key) = if nat_lt (count_by is_slot_order orders) 
 passed orders (EvictOrder step key) = if nat_lt (count_by is_slot_order orders) ORDER_LIMIT then None else Some Orders
 passed orders (SnapOrder step) = if nat_lt (count_by is_snap orders) SNAP_LIMIT then None else Some Snaps
 passed orders (StopOrder step) = if nat_lt (count_by is_stop orders) STOP_LIMIT then None else Some Stops
+passed orders (StopAtOrder kind times) = if nat_lt (count_by is_stop orders) STOP_LIMIT then None else Some Stops
 
 abbrev pub unless : {A : Type 0} → ℕ → Option Limit → A → Result A WorkFault
 unless n None x = Ok x

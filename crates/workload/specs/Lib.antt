@@ -2,6 +2,7 @@ pub mod WorkView
 pub mod Number
 pub mod Outcome
 pub mod Words
+pub mod Kinds
 pub mod Forms
 pub mod Joining
 pub mod Reading

@@ -7,7 +7,7 @@ use Rattle.far_base.specs.Padded.{length_of}
 use Rattle.far_base.specs.declared.body.TheConstants.{BODY_LIMIT}
 use Rattle.far_base.specs.declared.plan.OpLine.{OpLine}
 use Rattle.far_base.specs.declared.plan.Order.{Order}
-use Rattle.far_base.specs.declared.plan.Order.TheVariants.{Admit, Evict, Snap, Stop}
+use Rattle.far_base.specs.declared.plan.Order.TheVariants.{Admit, Evict, Snap, Stop, StopAt}
 use Rattle.far_base.specs.declared.plan.TheConstants.{STEP_LIMIT}
 use Rattle.workload.specs.Forms.{Form, OfOp, OfOrder, OfPicks, OfRandom}
 use Rattle.workload.specs.Plain.{IsPlain}
@@ -35,6 +35,7 @@ IsOrderForm (Admit step key) = IsNumber step × IsKey key
 IsOrderForm (Evict step key) = IsNumber step × IsKey key
 IsOrderForm (Snap step) = IsNumber step
 IsOrderForm (Stop step) = IsNumber step
+IsOrderForm (StopAt kind times) = IsNumber times
 
 -- one or more numbers
 abbrev pub AreNumbers : List ℕ → Type 0
@@ -56,6 +57,7 @@ IsWholeOrder (Admit step key) = IsKey key
 IsWholeOrder (Evict step key) = IsKey key
 IsWholeOrder (Snap step) = Unit {0}
 IsWholeOrder (Stop step) = Unit {0}
+IsWholeOrder (StopAt kind times) = Unit {0}
 
 -- ---- what the lines name, in their order
 

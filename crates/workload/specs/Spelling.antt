@@ -7,8 +7,9 @@ use Rattle.far_base.specs.declared.plan.Op.{Op}
 use Rattle.far_base.specs.declared.plan.Op.TheVariants.{Get, Put, Del}
 use Rattle.far_base.specs.declared.plan.OpLine.{OpLine}
 use Rattle.far_base.specs.declared.plan.Order.{Order}
-use Rattle.far_base.specs.declared.plan.Order.TheVariants.{Admit, Evict, Snap, Stop}
+use Rattle.far_base.specs.declared.plan.Order.TheVariants.{Admit, Evict, Snap, Stop, StopAt}
 use Rattle.workload.specs.Forms.{Form, OfOp, OfOrder, OfPicks, OfRandom}
+use Rattle.workload.specs.Kinds.{kind_name}
 use Rattle.workload.specs.WorkView.{WorkView}
 use Rattle.workload.specs.declared.printer.TheConstants.{PICKS_PER_LINE}
 
@@ -46,6 +47,7 @@ order_text (Admit step key) = number_key_text (codes "admit ") step key
 order_text (Evict step key) = number_key_text (codes "evict ") step key
 order_text (Snap step) = number_text (codes "snap ") step
 order_text (Stop step) = number_text (codes "stop ") step
+order_text (StopAt kind times) = codes "stop " ++ kind_name kind ++ number_text (codes " ") times
 
 -- numbers, each behind a space
 abbrev pub spaced : List ℕ → List ℕ

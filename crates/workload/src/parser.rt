@@ -16,7 +16,7 @@ ghost use Rattle.workload.specs.declared.words.Verb.TheVariants.{Get, Put, Del, 
 use crate::fault::{Limit, WorkFault};
 use crate::lines::Lines;
 use crate::load::{PICK_LIMIT, Workload};
-use crate::words::{Verb, cut, number_and_key, number_of, put_words};
+use crate::words::{Verb, cut, number_and_key, number_of, put_words, stop_of};
 use far_base::{Body, OP_LIMIT, ORDER_LIMIT, Op, OpLine, Order, SNAP_LIMIT, STOP_LIMIT};
 use std::alloc::Global;
 
@@ -35,7 +35,7 @@ fn is_snap(order: &Order) -> bool
 fn is_stop(order: &Order) -> bool
     ensures { result ≡ is_stop order.now }
 {
-    matches!(order, Order::Stop { .. })
+    matches!(order, Order::Stop { .. } | Order::StopAt { .. })
 }
 
 // Orders are few, so that counting them again for each new one costs little.
@@ -59,7 +59,7 @@ fn limit_passed(orders: &[Order], order: &Order) -> Option<Limit>
                 Some(Limit::Snaps)
             }
         }
-        Order::Stop { .. } => {
+        Order::Stop { .. } | Order::StopAt { .. } => {
             let count = orders.iter().filter(|other| is_stop(other)).count();
             if count < STOP_LIMIT as usize {
                 None
@@ -205,10 +205,10 @@ impl Workload {
     fn take_stop(&mut self, number: u32, words: &[u8]) -> Result<(), WorkFault>
         ensures { Gives (λ _. self.new) result (step_by number self.old (form_by Stop words.now)) }
     {
-        let Some(step) = number_of(words) else {
+        let Some(order) = stop_of(words) else {
             return Err(WorkFault::BadLine(number));
         };
-        self.push_order(number, Order::Stop { step })
+        self.push_order(number, order)
     }
 
     #[tactic(auto, using(crate::proofs::Joined::picks_read, crate::proofs::Joined::picks_fail))]

@@ -4,6 +4,8 @@ ghost use Rattle.far_base.specs.Key.{key_text};
 ghost use Rattle.far_base.specs.Padded.{length_of};
 ghost use Rattle.far_base.specs.declared.body.TheConstants.{BODY_LIMIT};
 ghost use Rattle.workload.specs.Meaning.{IsKey, IsWholeOp, IsWholeOrder, IsReading};
+ghost use Rattle.far_base.specs.declared.plan.Order.TheVariants.{StopAt};
+ghost use Rattle.workload.specs.Kinds.{kind_name};
 ghost use Rattle.workload.specs.Forms.{OfOp, OfOrder, OfPicks};
 ghost use Rattle.workload.specs.Plain.{IsPlain};
 ghost use Rattle.workload.specs.Spelling.{number_text, number_line, number_key_text, head_text, verb_text, body_text, order_text, line_text, lines_text, rows, random_forms, spelling};
@@ -11,7 +13,7 @@ ghost use Rattle.workload.specs.Rows.{pick_text, next_place};
 ghost use Rattle.workload.specs.declared.printer.TheConstants.{PICKS_PER_LINE};
 
 use crate::load::Workload;
-use far_base::{Body, Config, Key, Memory, Op, OpLine, Order};
+use far_base::{Body, Config, Key, Memory, Op, OpLine, Order, PassKind};
 use itoa::Buffer;
 use std::alloc::Global;
 
@@ -99,6 +101,30 @@ fn put_op(out: &mut Vec<u8>, line: &OpLine) -> Result<(), Memory>
     put(out, b"\n")
 }
 
+fn kind_name(kind: PassKind) -> &'static [u8]
+    ensures { result.now ≡ kind_name kind }
+{
+    match kind {
+        PassKind::GetReq => b"getreq",
+        PassKind::WriteReq => b"writereq",
+        PassKind::GetRep => b"getrep",
+        PassKind::WriteRep => b"writerep",
+        PassKind::Admit => b"admit",
+        PassKind::Peek => b"peek",
+        PassKind::Remove => b"remove",
+        PassKind::SnapStart => b"snapstart",
+        PassKind::SnapRead => b"snapread",
+    }
+}
+
+fn put_stop_at(out: &mut Vec<u8>, kind: PassKind, times: u64) -> Result<(), Memory>
+    ensures { IfOk result (λ _. out.new.items ≡ out.old.items ++ order_text (StopAt kind times)) }
+{
+    put(out, b"stop ")?;
+    put(out, kind_name(kind))?;
+    put_number(out, b" ", times)
+}
+
 fn put_order_words(out: &mut Vec<u8>, order: &Order) -> Result<(), Memory>
     ensures text { IfOk result (λ _. out.new.items ≡ out.old.items ++ order_text order.now) }
     ensures whole { IfOk result (λ _. IsWholeOrder order.now) }
@@ -108,6 +134,7 @@ fn put_order_words(out: &mut Vec<u8>, order: &Order) -> Result<(), Memory>
         Order::Evict { step, key } => put_number_and_key(out, b"evict ", *step, key),
         Order::Snap { step } => put_number(out, b"snap ", *step),
         Order::Stop { step } => put_number(out, b"stop ", *step),
+        Order::StopAt { kind, times } => put_stop_at(out, *kind, *times),
     }
 }
 

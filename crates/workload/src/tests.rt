@@ -5,7 +5,7 @@ use std::test::Fail;
 fn what_was_read_prints_as_it_was(rt: HostRuntime) -> Result<(), Fail> {
     for text in [
         b"far 1\nclients 1\nservers 1\nslots 1\nhot 0\nput 0 a =x\nget 0 a\n".as_slice(),
-        b"far 1\nclients 2\nservers 16\nslots 1024\nhot 65535\nget 1 a\nput 0 b =\ndel 1 0123456789abcdef\nadmit 0 a\nevict 3 b\nsnap 9999999999999999999\nstop 12\npicks 0 7 9999999999999999999\nrandom 5\n".as_slice(),
+        b"far 1\nclients 2\nservers 16\nslots 1024\nhot 65535\nget 1 a\nput 0 b =\ndel 1 0123456789abcdef\nadmit 0 a\nevict 3 b\nsnap 9999999999999999999\nstop 12\nstop writereq 1\nstop admit 0\npicks 0 7 9999999999999999999\nrandom 5\n".as_slice(),
     ] {
         let load = parse(rt.alloc(), text).ok().ok_or("not read")?;
         let printed = print(rt.alloc(), &load).ok().ok_or("not printed")?;
@@ -28,7 +28,7 @@ fn the_first_fault_decides(rt: HostRuntime) {
             WorkFault::BadLine(6),
         ),
         (
-            b"far 1\nclients 1\nservers 1\nslots 1\nhot 0\nput 0 a =xxxxxxxxxxxxxxxxxxxxxxxxxxxxxxxxxxxxxxxxxxxxxxxxxxxxxxxxxxxxxxxxxxxxxxxxxxxxxxxxxxxxxxxxxxxxxxxxxxxxxxxxxxxxxxxxxxxxxxxxxxxxxxxxx\n".as_slice(),
+            b"far 1\nclients 1\nservers 1\nslots 1\nhot 0\nput 0 a =xxxxxxxxxxxxxxxxxxxxxxxxxxxxxxxxxxxxxxxxxxxxxxxxxxxxxxxxxxxxxxxxxxxxxxxxxxxxxxxxxxxxxxxxxxxxxxxxxxxxxxxxxxxxxxxxxxxxxxxxxxxxxxxxxxxxxxxxxxxxxxxxxxxxxxxxxxxxxxxxxxxxxxxxxxxxxxxxxxxxxxxxxxxxxxxxxxxxxxxxxxxxxxxxxxxxxxxxxxxxxxxxxxxxxxxxxxxxxxxxxxxxxxxxxxxxxxxxx\n".as_slice(),
             WorkFault::TooLarge(Limit::Body, 6),
         ),
         (
@@ -42,6 +42,10 @@ fn the_first_fault_decides(rt: HostRuntime) {
         (
             b"far 1\nclients 1\nservers 1\nslots 1\nhot 0\nrandom 1\nrandom 1\n".as_slice(),
             WorkFault::BadLine(7),
+        ),
+        (
+            b"far 1\nclients 1\nservers 1\nslots 1\nhot 0\nstop hot 1\n".as_slice(),
+            WorkFault::BadLine(6),
         ),
     ] {
         assert!(rt; matches!(parse(rt.alloc(), text), Err(found) if found == fault));

@@ -4,8 +4,10 @@ ghost use Rattle.far_base.specs.Key.{is_visible};
 ghost use Rattle.workload.specs.Number.{is_number, is_digit, value_from};
 ghost use Rattle.workload.specs.Outcome.{Shows};
 ghost use Rattle.workload.specs.Words.{until, cut_at, number_of, body_of, number_and_key, put_words, verb_of};
+ghost use Rattle.workload.specs.Kinds.{kind_of};
+ghost use Rattle.workload.specs.Forms.{stop_of};
 
-use far_base::Key;
+use far_base::{Key, Order, PassKind};
 
 fn until(bytes: &[u8], mark: u8) -> usize
     ensures count { result ≡ until mark bytes.now }
@@ -116,6 +118,48 @@ pub(crate) fn is_word(word: &[u8], name: &[u8]) -> bool
     ensures { result ≡ bytes_eq word.now name.now }
 {
     word == name
+}
+
+/// The kind of packet that the word names.
+fn kind_of(word: &[u8]) -> Option<PassKind>
+    ensures { result ≡ kind_of word.now }
+{
+    if is_word(word, b"getreq") {
+        Some(PassKind::GetReq)
+    } else if is_word(word, b"writereq") {
+        Some(PassKind::WriteReq)
+    } else if is_word(word, b"getrep") {
+        Some(PassKind::GetRep)
+    } else if is_word(word, b"writerep") {
+        Some(PassKind::WriteRep)
+    } else if is_word(word, b"admit") {
+        Some(PassKind::Admit)
+    } else if is_word(word, b"peek") {
+        Some(PassKind::Peek)
+    } else if is_word(word, b"remove") {
+        Some(PassKind::Remove)
+    } else if is_word(word, b"snapstart") {
+        Some(PassKind::SnapStart)
+    } else if is_word(word, b"snapread") {
+        Some(PassKind::SnapRead)
+    } else {
+        None
+    }
+}
+
+/// The order to stop the switch: at a step, or at a packet where two words name its kind and count.
+pub(crate) fn stop_of(words: &[u8]) -> Option<Order>
+    ensures { result ≡ stop_of words.now }
+{
+    match cut(words, b' ') {
+        Some((kind, times)) => Some(Order::StopAt {
+            kind: kind_of(kind)?,
+            times: number_of(times)?,
+        }),
+        None => Some(Order::Stop {
+            step: number_of(words)?,
+        }),
+    }
 }
 
 impl Verb {

@@ -1,0 +1,136 @@
+ghost use Rattle.std.specs.Prelude.{◌≡◌, ◌++◌, ◌∷◌, map, length, take, OnOk, OnErr};
+ghost use Rattle.std.specs.Fmt.{decimal};
+ghost use Rattle.far_base.specs.Key.{key_text};
+ghost use Rattle.far_text.specs.Text.{body_word, after_words, text_line};
+ghost use Rattle.far_text.specs.Spelled.{word_text};
+
+use far_base::{Body, Key, Memory};
+use itoa::Buffer;
+
+/// The byte between two words of a line.
+pub const SPACE: u8 = b' ';
+
+/// The byte at the end of a line.
+pub const LINE_END: u8 = b'\n';
+
+/// A word of a line that is written.
+#[derive(Clone, Copy)]
+pub enum Word<'a> {
+    /// These bytes.
+    Text(&'a [u8]),
+    /// The digits of the number.
+    Number(u64),
+    /// The text of the key.
+    Key(&'a Key),
+    /// `=` and the bytes of the body, or `-` where it is absent.
+    Body(&'a Body),
+}
+
+/// Appends the bytes. At `Memory` nothing was appended.
+pub fn put_text(out: &mut Vec<u8>, text: &[u8]) -> Result<(), Memory>
+    ensures text { OnOk result (out.new.items ≡ out.old.items ++ text.now) }
+    ensures kept { OnErr result (out.new.items ≡ out.old.items) }
+{
+    out.extend_from_slice(text)?;
+    Ok(())
+}
+
+/// Appends the digits of the number. At `Memory` nothing was appended.
+pub fn put_number(out: &mut Vec<u8>, number: u64) -> Result<(), Memory>
+    ensures text { OnOk result (out.new.items ≡ out.old.items ++ decimal number) }
+    ensures kept { OnErr result (out.new.items ≡ out.old.items) }
+{
+    let mut buffer = Buffer::new();
+    put_text(out, buffer.format(number).as_bytes())
+}
+
+/// Appends the text of the key. At `Memory` nothing was appended.
+pub fn put_key(out: &mut Vec<u8>, key: &Key) -> Result<(), Memory>
+    ensures text { OnOk result (out.new.items ≡ out.old.items ++ key_text key.now) }
+    ensures kept { OnErr result (out.new.items ≡ out.old.items) }
+{
+    put_text(out, key.text())
+}
+
+fn append_body(out: &mut Vec<u8>, body: &Body) -> Result<(), Memory>
+    ensures text { OnOk result (out.new.items ≡ out.old.items ++ body_word body.now) }
+    ensures front { take (length out.old.items) out.new.items ≡ out.old.items }
+{
+    if !body.is_present() {
+        return put_text(out, b"-");
+    }
+    put_text(out, b"=")?;
+    put_text(out, body.text())
+}
+
+/// Appends `=` and the bytes of the body, or `-` where it is absent. At `Memory` nothing was appended.
+pub fn put_body(out: &mut Vec<u8>, body: &Body) -> Result<(), Memory>
+    ensures text { OnOk result (out.new.items ≡ out.old.items ++ body_word body.now) }
+    ensures kept { OnErr result (out.new.items ≡ out.old.items) }
+{
+    let end = out.len();
+    let written = append_body(out, body);
+    if written.is_err() {
+        out.truncate(end);
+    }
+    written
+}
+
+/// Appends the word. At `Memory` nothing was appended.
+pub fn put_word(out: &mut Vec<u8>, word: &Word) -> Result<(), Memory>
+    ensures text { OnOk result (out.new.items ≡ out.old.items ++ word_text word.now) }
+    ensures kept { OnErr result (out.new.items ≡ out.old.items) }
+{
+    match word {
+        Word::Text(text) => put_text(out, text),
+        Word::Number(number) => put_number(out, *number),
+        Word::Key(key) => put_key(out, key),
+        Word::Body(body) => put_body(out, body),
+    }
+}
+
+fn append_spaced(out: &mut Vec<u8>, word: &Word) -> Result<(), Memory>
+    ensures text { OnOk result (out.new.items ≡ out.old.items ++ SPACE ∷ word_text word.now) }
+    ensures front { take (length out.old.items) out.new.items ≡ out.old.items }
+{
+    put_text(out, &[SPACE])?;
+    put_word(out, word)
+}
+
+#[tactic(auto, using(crate::proofs::Fronts::front_more))]
+fn append_after(out: &mut Vec<u8>, words: &[Word]) -> Result<(), Memory>
+    ensures text { OnOk result (out.new.items ≡ out.old.items ++ after_words (map word_text words.now)) }
+    ensures front { take (length out.old.items) out.new.items ≡ out.old.items }
+{
+    for word in words {
+        append_spaced(out, word)?;
+    }
+    put_text(out, &[LINE_END])
+}
+
+#[tactic(auto, using(crate::proofs::Fronts::front_more))]
+fn append_line(out: &mut Vec<u8>, words: &[Word]) -> Result<(), Memory>
+    ensures text { OnOk result (out.new.items ≡ out.old.items ++ text_line (map word_text words.now)) }
+    ensures front { take (length out.old.items) out.new.items ≡ out.old.items }
+{
+    match words {
+        [] => put_text(out, &[LINE_END]),
+        [first, others @ ..] => {
+            put_word(out, first)?;
+            append_after(out, others)
+        }
+    }
+}
+
+/// Appends a line of the words, with one space between two. At `Memory` nothing was appended.
+pub fn put_line(out: &mut Vec<u8>, words: &[Word]) -> Result<(), Memory>
+    ensures text { OnOk result (out.new.items ≡ out.old.items ++ text_line (map word_text words.now)) }
+    ensures kept { OnErr result (out.new.items ≡ out.old.items) }
+{
+    let end = out.len();
+    let written = append_line(out, words);
+    if written.is_err() {
+        out.truncate(end);
+    }
+    written
+}
