@@ -1,7 +1,7 @@
-pub mod Faults
-pub mod Number
-pub mod BaseForm
-pub mod Reading
+pub mod Inputs
+pub mod Lines
+pub mod Picked
+pub mod Replay
 pub mod Saying
 pub mod Status
 pub mod Top

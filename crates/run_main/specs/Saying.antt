@@ -1,21 +1,21 @@
--- The steps of a top call: the text that is read, the report, and what is said.
-use Rattle.std.specs.Prelude.{◌≡◌, ℕ, ◌<◌, ◌≤◌, List, ◌++◌, length, take, Option, None, Some, Result, Ok, Err}
-use Rattle.run_main.specs.BaseForm.{WorkView, IsBaseForm}
-use Rattle.run_main.specs.Top.{IsNotBuilt}
+-- The steps of a top call: the workload that is read, and what is said.
+use Rattle.std.specs.Prelude.{◌≡◌, ◌⊎◌, ℕ, ◌<◌, ◌≤◌, List, ◌++◌, length, take, Option, None, Some, Result, Ok, Err, IfSome}
+use Rattle.workload.specs.WorkView.{WorkView}
+use Rattle.workload.specs.declared.fault.Limit.TheVariants.{Input}
+use Rattle.run_main.specs.Inputs.{IsRefusedAs, IsWorkload}
 use Rattle.run_main.specs.declared.status.Status.{Status}
-use Rattle.run_main.specs.declared.status.Status.TheVariants.{Done, Usage, ReadFault, WriteFault, KeeperFault, Memory, NotBuilt}
-use Rattle.run_main.specs.declared.top.Stop.{Stop}
-use Rattle.run_main.specs.declared.top.Stop.TheVariants.{Read, Keeper, Memory as NoMemory, NotBuilt as NoWorkload}
 use Rattle.run_main.specs.declared.top.TheConstants.{INPUT_LIMIT}
+use Rattle.run_main.specs.declared.status.Status.TheVariants.{Done, Usage, BadLine, ReadFault, WriteFault, KeeperFault, Memory, TooLarge}
 
 -- a status that goes with a text
 abbrev pub IsSaid : Status → Type 0
 IsSaid Done = Unit {0}
 IsSaid Usage = Unit {0}
-IsSaid NotBuilt = Unit {0}
+IsSaid (BadLine line) = Unit {0}
+IsSaid (TooLarge limit line) = Unit {0}
 IsSaid _ = ⊥
 
--- the text was written, a front of it, or nothing
+-- the text was written, a prefix of it, or nothing
 abbrev pub SaysTold : List ℕ → List ℕ → List ℕ → Status → Status → Type 0
 SaysTold before now text status WriteFault = (n : ℕ) × (now ≡ before ++ take n text)
 SaysTold before now text status Memory = now ≡ before
@@ -23,7 +23,20 @@ SaysTold before now text status ReadFault = ⊥
 SaysTold before now text status KeeperFault = ⊥
 SaysTold before now text status answer = (answer ≡ status) × (now ≡ before ++ text)
 
--- of the answers that come without a text, and of those with one the one that goes with it
+-- a status that comes before any run, with a line or without one
+abbrev pub IsEarly : Status → Type 0
+IsEarly Usage = Unit {0}
+IsEarly (BadLine line) = Unit {0}
+IsEarly (TooLarge limit line) = Unit {0}
+IsEarly ReadFault = Unit {0}
+IsEarly Memory = Unit {0}
+IsEarly _ = ⊥
+
+-- the status, or why its text was not written
+abbrev pub IsAnswer : Status → Status → Type 0
+IsAnswer status answer = (answer ≡ status) ⊎ ((answer ≡ WriteFault) ⊎ (answer ≡ Memory))
+
+-- the same, by the answer
 abbrev pub Answers : Status → Status → Type 0
 Answers status WriteFault = Unit {0}
 Answers status Memory = Unit {0}
@@ -36,16 +49,49 @@ Says None now text status answer = Answers status answer
 Says (Some before) None text status answer = ⊥
 Says (Some before) (Some now) text status answer = SaysTold before now text status answer
 
--- the input was read where it is not too large
-abbrev pub SettlesText : {T : Type 0} → List ℕ → Result T Stop → Type 0
+-- why there is no workload
+abbrev pub IsReadingFault : Option (List ℕ) → Type 0 → Status → Type 0
+IsReadingFault left rose (BadLine line) = IfSome left (λ input. IsRefusedAs input (BadLine line))
+IsReadingFault left rose (TooLarge limit line) = IfSome left (λ input. IsRefusedAs input (TooLarge limit line))
+IsReadingFault left rose ReadFault = rose
+IsReadingFault left rose Memory = Unit {0}
+IsReadingFault left rose _ = ⊥
+
+abbrev pub IsParsingFault : List ℕ → Status → Type 0
+IsParsingFault input (BadLine line) = IsRefusedAs input (BadLine line)
+IsParsingFault input (TooLarge limit line) = IsRefusedAs input (TooLarge limit line)
+IsParsingFault input Memory = Unit {0}
+IsParsingFault input _ = ⊥
+
+-- the input was read where it is not too long
+abbrev pub SettlesText : {T : Type 0} → List ℕ → Result T Status → Type 0
 SettlesText input (Ok bytes) = length input ≤ INPUT_LIMIT
-SettlesText input (Err NoMemory) = Unit {0}
-SettlesText input (Err NoWorkload) = INPUT_LIMIT < length input
+SettlesText input (Err Memory) = Unit {0}
+SettlesText input (Err (TooLarge limit line)) = (INPUT_LIMIT < length input) × (limit ≡ Input) × (line ≡ 0)
 SettlesText input (Err _) = ⊥
 
--- the input was replayed where it is a workload of the base form that is not too large
-abbrev pub SettlesReplay : {T : Type 0} → List ℕ → Result T Stop → Type 0
-SettlesReplay input (Ok report) = ¬ (IsNotBuilt input)
-SettlesReplay input (Err NoMemory) = Unit {0}
-SettlesReplay input (Err NoWorkload) = IsNotBuilt input
-SettlesReplay input (Err _) = ⊥
+-- why a run has no report
+abbrev pub IsRunFault : Type 0 → Status → Type 0
+IsRunFault rose KeeperFault = rose
+IsRunFault rose Memory = Unit {0}
+IsRunFault rose _ = ⊥
+
+-- this workload was read, or memory was refused
+abbrev pub IsReadAs : Result WorkView Status → Type 0
+IsReadAs (Ok work) = Unit {0}
+IsReadAs (Err status) = status ≡ Memory
+
+-- it was refused with this status, or memory was refused
+abbrev pub IsRefusalOf : Status → Result WorkView Status → Type 0
+IsRefusalOf refusal (Ok work) = ⊥
+IsRefusalOf refusal (Err status) = (status ≡ refusal) ⊎ (status ≡ Memory)
+
+-- what is answered where no read failed
+pub record SettlesReading (input : List ℕ) (result : Result WorkView Status) : Type 0 where
+  pub workload : (work : WorkView) → IsWorkload input work → IsReadAs result
+  pub refused : (refusal : Status) → IsRefusedAs input refusal → IsRefusalOf refusal result
+
+-- the input reads as this workload, and as nothing else
+pub record IsRead (input : List ℕ) (work : WorkView) : Type 0 where
+  pub is : IsWorkload input work
+  pub settles : SettlesReading input (Ok work)

@@ -1,14 +1,22 @@
--- How a top call ended, as a number.
+-- How a top call ended: the number of the program's exit, and the status of a faulty workload.
 use Rattle.std.specs.Prelude.{ℕ}
+use Rattle.workload.specs.declared.fault.WorkFault.{WorkFault}
+use Rattle.workload.specs.declared.fault.WorkFault.TheVariants.{BadLine as BadLineFault, TooLarge as TooLargeFault, Memory as NoMemory}
 use Rattle.run_main.specs.declared.status.Status.{Status}
-use Rattle.run_main.specs.declared.status.Status.TheVariants.{Done, Usage, ReadFault, WriteFault, KeeperFault, Memory, NotBuilt}
+use Rattle.run_main.specs.declared.status.Status.TheVariants.{Done, Usage, BadLine, ReadFault, WriteFault, KeeperFault, Memory, TooLarge}
 
 -- the number with which the program ends
 abbrev pub exit_number : Status → ℕ
 exit_number Done = 0
 exit_number Usage = 2
+exit_number (BadLine line) = 3
 exit_number ReadFault = 4
 exit_number WriteFault = 5
 exit_number KeeperFault = 6
 exit_number Memory = 7
-exit_number NotBuilt = 10
+exit_number (TooLarge limit line) = 8
+
+abbrev pub status_of : WorkFault → Status
+status_of (BadLineFault line) = BadLine line
+status_of (TooLargeFault limit line) = TooLarge limit line
+status_of NoMemory = Memory

@@ -1,15 +1,15 @@
-//! The top calls of the cache, and the reader of a workload in its base form.
+//! The top calls of the cache: what its program does with its arguments, its input and its servers.
 #![tactic(auto)]
 
-mod base_form;
+mod reading;
 mod replay;
+mod saying;
 mod status;
 mod top;
-mod words;
 
-pub use base_form::{BaseFault, BaseWork, PICK_LIMIT, read_base};
 pub use status::Status;
 pub use top::{Ended, INPUT_LIMIT, top_calm, top_calm_in_memory};
+pub use workload::Limit;
 
 #[cfg(test)]
 mod tests;

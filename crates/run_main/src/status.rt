@@ -1,13 +1,17 @@
+use workload::{Limit, WorkFault};
+
 ghost use Rattle.std.specs.Prelude.{◌≡◌};
 ghost use Rattle.run_main.specs.Status.{exit_number};
 
-/// How a top call ended.
+/// How a top call ended. Lines are counted from 1.
 #[derive(Clone, Copy, Debug, PartialEq, Eq)]
 pub enum Status {
     /// The work is done and its text is written.
     Done,
-    /// The words name no command.
+    /// The arguments name no command.
     Usage,
+    /// The first faulty line of the workload has none of the forms that may stand there.
+    BadLine(u32),
     /// A read of the source failed.
     ReadFault,
     /// A write to the sink failed.
@@ -16,8 +20,8 @@ pub enum Status {
     KeeperFault,
     /// Memory was refused.
     Memory,
-    /// The input is not of the form that is built so far, or is too large.
-    NotBuilt,
+    /// The first faulty line of the workload passes this limit; line 0 stands for the whole input.
+    TooLarge(Limit, u32),
 }
 
 impl Status {
@@ -28,11 +32,26 @@ impl Status {
         match self {
             Status::Done => 0,
             Status::Usage => 2,
+            Status::BadLine(_) => 3,
             Status::ReadFault => 4,
             Status::WriteFault => 5,
             Status::KeeperFault => 6,
             Status::Memory => 7,
-            Status::NotBuilt => 10,
+            Status::TooLarge(_, _) => 8,
+        }
+    }
+}
+
+impl From<WorkFault> for Status {
+    ghost use Rattle.run_main.specs.Status.{status_of};
+
+    ghost from_gives = { λ fault status. status ≡ status_of fault };
+
+    fn from(fault: WorkFault) -> Self {
+        match fault {
+            WorkFault::BadLine(line) => Status::BadLine(line),
+            WorkFault::TooLarge(limit, line) => Status::TooLarge(limit, line),
+            WorkFault::Memory => Status::Memory,
         }
     }
 }
