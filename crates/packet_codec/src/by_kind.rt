@@ -2,7 +2,7 @@ ghost use Rattle.packet_codec.specs.Reading.{Reads};
 ghost use Rattle.packet_codec.specs.Packets.{fields_at, get_req_at, write_req_at, get_fwd_at, write_fwd_at, get_rep_at, write_rep_at, get_ans_at, write_ans_at, hot_at, admit_at, admit_ack_at, peek_at, peek_ans_at, remove_at, remove_ans_at, snap_start_at, snap_begun_at, snap_read_at, snap_part_at, store_at, stored_at, release_at, ask_at, told_at, top_ask_at, top_is_at, snap_same_at, snap_from_at};
 
 use crate::fault::BadPacket;
-use crate::kinds::*;
+use crate::kinds;
 use crate::reader::Reader;
 use far_base::Packet;
 
@@ -328,34 +328,34 @@ pub fn fields(kind: u8, reader: &mut Reader) -> Result<Packet, BadPacket>
     ensures { Reads result reader.new.rest.now (fields_at kind reader.old.rest.now) }
 {
     match kind {
-        GET_REQ => get_req(reader),
-        WRITE_REQ => write_req(reader),
-        GET_FWD => get_fwd(reader),
-        WRITE_FWD => write_fwd(reader),
-        GET_REP => get_rep(reader),
-        WRITE_REP => write_rep(reader),
-        GET_ANS => get_ans(reader),
-        WRITE_ANS => write_ans(reader),
-        HOT => hot(reader),
-        ADMIT => admit(reader),
-        ADMIT_ACK => admit_ack(reader),
-        PEEK => peek(reader),
-        PEEK_ANS => peek_ans(reader),
-        REMOVE => remove(reader),
-        REMOVE_ANS => remove_ans(reader),
-        SNAP_START => snap_start(reader),
-        SNAP_BEGUN => snap_begun(reader),
-        SNAP_READ => snap_read(reader),
-        SNAP_PART => snap_part(reader),
-        STORE => store(reader),
-        STORED => stored(reader),
-        RELEASE => release(reader),
-        ASK => ask(reader),
-        TOLD => told(reader),
-        TOP_ASK => top_ask(reader),
-        TOP_IS => top_is(reader),
-        SNAP_SAME => snap_same(reader),
-        SNAP_FROM => snap_from(reader),
+        kinds::GET_REQ => get_req(reader),
+        kinds::WRITE_REQ => write_req(reader),
+        kinds::GET_FWD => get_fwd(reader),
+        kinds::WRITE_FWD => write_fwd(reader),
+        kinds::GET_REP => get_rep(reader),
+        kinds::WRITE_REP => write_rep(reader),
+        kinds::GET_ANS => get_ans(reader),
+        kinds::WRITE_ANS => write_ans(reader),
+        kinds::HOT => hot(reader),
+        kinds::ADMIT => admit(reader),
+        kinds::ADMIT_ACK => admit_ack(reader),
+        kinds::PEEK => peek(reader),
+        kinds::PEEK_ANS => peek_ans(reader),
+        kinds::REMOVE => remove(reader),
+        kinds::REMOVE_ANS => remove_ans(reader),
+        kinds::SNAP_START => snap_start(reader),
+        kinds::SNAP_BEGUN => snap_begun(reader),
+        kinds::SNAP_READ => snap_read(reader),
+        kinds::SNAP_PART => snap_part(reader),
+        kinds::STORE => store(reader),
+        kinds::STORED => stored(reader),
+        kinds::RELEASE => release(reader),
+        kinds::ASK => ask(reader),
+        kinds::TOLD => told(reader),
+        kinds::TOP_ASK => top_ask(reader),
+        kinds::TOP_IS => top_is(reader),
+        kinds::SNAP_SAME => snap_same(reader),
+        kinds::SNAP_FROM => snap_from(reader),
         _ => Err(BadPacket::Kind),
     }
 }

@@ -3,7 +3,7 @@ ghost use Rattle.packet_codec.specs.declared.wire.TheConstants.{PACKET_LIMIT};
 ghost use Rattle.packet_codec.specs.Packets.{packet_of};
 ghost use Rattle.packet_codec.specs.Spelling.{Spells};
 
-use crate::kinds::*;
+use crate::kinds;
 use crate::wire::Wire;
 use far_base::Packet;
 
@@ -14,7 +14,7 @@ fn put(wire: &mut Wire, packet: &Packet)
 {
     match *packet {
         Packet::GetReq { caller, op, key } => {
-            wire.begin(GET_REQ);
+            wire.begin(kinds::GET_REQ);
             wire.call(caller, op, &key);
         }
         Packet::WriteReq {
@@ -23,7 +23,7 @@ fn put(wire: &mut Wire, packet: &Packet)
             key,
             body,
         } => {
-            wire.begin(WRITE_REQ);
+            wire.begin(kinds::WRITE_REQ);
             wire.call(caller, op, &key);
             wire.body(&body);
         }
@@ -33,7 +33,7 @@ fn put(wire: &mut Wire, packet: &Packet)
             key,
             tag,
         } => {
-            wire.begin(GET_FWD);
+            wire.begin(kinds::GET_FWD);
             wire.call(caller, op, &key);
             wire.u64(tag);
         }
@@ -44,7 +44,7 @@ fn put(wire: &mut Wire, packet: &Packet)
             num,
             body,
         } => {
-            wire.begin(WRITE_FWD);
+            wire.begin(kinds::WRITE_FWD);
             wire.call(caller, op, &key);
             wire.u64(num);
             wire.body(&body);
@@ -57,7 +57,7 @@ fn put(wire: &mut Wire, packet: &Packet)
             num,
             body,
         } => {
-            wire.begin(GET_REP);
+            wire.begin(kinds::GET_REP);
             wire.call(caller, op, &key);
             wire.u64(tag);
             wire.u64(num);
@@ -70,7 +70,7 @@ fn put(wire: &mut Wire, packet: &Packet)
             num,
             body,
         } => {
-            wire.begin(WRITE_REP);
+            wire.begin(kinds::WRITE_REP);
             wire.call(caller, op, &key);
             wire.u64(num);
             wire.body(&body);
@@ -83,7 +83,7 @@ fn put(wire: &mut Wire, packet: &Packet)
             body,
             near,
         } => {
-            wire.begin(GET_ANS);
+            wire.begin(kinds::GET_ANS);
             wire.call(caller, op, &key);
             wire.u64(num);
             wire.body(&body);
@@ -96,13 +96,13 @@ fn put(wire: &mut Wire, packet: &Packet)
             num,
             kept,
         } => {
-            wire.begin(WRITE_ANS);
+            wire.begin(kinds::WRITE_ANS);
             wire.call(caller, op, &key);
             wire.u64(num);
             wire.flag(kept);
         }
         Packet::Hot { key } => {
-            wire.begin(HOT);
+            wire.begin(kinds::HOT);
             wire.key(&key);
         }
         Packet::Admit {
@@ -111,19 +111,19 @@ fn put(wire: &mut Wire, packet: &Packet)
             key,
             tag,
         } => {
-            wire.begin(ADMIT);
+            wire.begin(kinds::ADMIT);
             wire.u32(epoch);
             wire.u32(slot);
             wire.key(&key);
             wire.u64(tag);
         }
         Packet::AdmitAck { slot, tag } => {
-            wire.begin(ADMIT_ACK);
+            wire.begin(kinds::ADMIT_ACK);
             wire.u32(slot);
             wire.u64(tag);
         }
         Packet::Peek { epoch, slot, tag } => {
-            wire.begin(PEEK);
+            wire.begin(kinds::PEEK);
             wire.u32(epoch);
             wire.u32(slot);
             wire.u64(tag);
@@ -135,7 +135,7 @@ fn put(wire: &mut Wire, packet: &Packet)
             num,
             body,
         } => {
-            wire.begin(PEEK_ANS);
+            wire.begin(kinds::PEEK_ANS);
             wire.u32(slot);
             wire.u64(tag);
             wire.flag(latest);
@@ -149,7 +149,7 @@ fn put(wire: &mut Wire, packet: &Packet)
             latest,
             num,
         } => {
-            wire.begin(REMOVE);
+            wire.begin(kinds::REMOVE);
             wire.u32(epoch);
             wire.u32(slot);
             wire.u64(tag);
@@ -164,7 +164,7 @@ fn put(wire: &mut Wire, packet: &Packet)
             num,
             body,
         } => {
-            wire.begin(REMOVE_ANS);
+            wire.begin(kinds::REMOVE_ANS);
             wire.u32(slot);
             wire.u64(tag);
             wire.flag(done);
@@ -173,42 +173,42 @@ fn put(wire: &mut Wire, packet: &Packet)
             wire.body(&body);
         }
         Packet::SnapStart { epoch, id } => {
-            wire.begin(SNAP_START);
+            wire.begin(kinds::SNAP_START);
             wire.u32(epoch);
             wire.u32(id);
         }
         Packet::SnapBegun { id, point } => {
-            wire.begin(SNAP_BEGUN);
+            wire.begin(kinds::SNAP_BEGUN);
             wire.u32(id);
             wire.u64(point);
         }
         Packet::SnapRead { epoch, id, slot } => {
-            wire.begin(SNAP_READ);
+            wire.begin(kinds::SNAP_READ);
             wire.u32(epoch);
             wire.u32(id);
             wire.u32(slot);
         }
         Packet::SnapPart { id, slot, view } => {
-            wire.begin(SNAP_PART);
+            wire.begin(kinds::SNAP_PART);
             wire.u32(id);
             wire.u32(slot);
             wire.held(&view);
         }
         Packet::Store { job, item } => {
-            wire.begin(STORE);
+            wire.begin(kinds::STORE);
             wire.u64(job);
             wire.rec(&item);
         }
         Packet::Stored { job } => {
-            wire.begin(STORED);
+            wire.begin(kinds::STORED);
             wire.u64(job);
         }
         Packet::Release { point } => {
-            wire.begin(RELEASE);
+            wire.begin(kinds::RELEASE);
             wire.u64(point);
         }
         Packet::Ask { round } => {
-            wire.begin(ASK);
+            wire.begin(kinds::ASK);
             wire.u32(round);
         }
         Packet::Told {
@@ -217,29 +217,29 @@ fn put(wire: &mut Wire, packet: &Packet)
             total,
             item,
         } => {
-            wire.begin(TOLD);
+            wire.begin(kinds::TOLD);
             wire.u32(round);
             wire.u32(caller);
             wire.u32(total);
             wire.held(&item);
         }
         Packet::TopAsk { round } => {
-            wire.begin(TOP_ASK);
+            wire.begin(kinds::TOP_ASK);
             wire.u32(round);
         }
         Packet::TopIs { round, server, top } => {
-            wire.begin(TOP_IS);
+            wire.begin(kinds::TOP_IS);
             wire.u32(round);
             wire.u32(server);
             wire.u64(top);
         }
         Packet::SnapSame { id, slot } => {
-            wire.begin(SNAP_SAME);
+            wire.begin(kinds::SNAP_SAME);
             wire.u32(id);
             wire.u32(slot);
         }
         Packet::SnapFrom { epoch, id, base } => {
-            wire.begin(SNAP_FROM);
+            wire.begin(kinds::SNAP_FROM);
             wire.u32(epoch);
             wire.u32(id);
             wire.u32(base);

@@ -49,7 +49,7 @@ fn put_at(out: &mut [u8], at: usize, text: &[u8])
 
 impl Wire {
     /// No bytes.
-    pub(crate) fn new() -> Self
+    pub fn new() -> Self
         ensures { result ≡ [] }
     {
         Wire {

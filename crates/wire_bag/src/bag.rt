@@ -3,42 +3,38 @@ use packet_codec::Wire;
 use std::alloc::Global;
 use std::marker::Model;
 
-/// The messages on their way, oldest first: who sent each, to whom it goes, and its bytes.
+/// Who sent a message, to whom it goes, and its bytes.
+type Message = (Party, Party, Wire);
+
+/// The messages on their way, oldest first. A message stays at its place in memory while others
+/// are taken out, and its box serves a later one.
 #[derive(Drop)]
 pub struct Bag {
-    messages: Vec<(Party, Party, Wire)>,
+    alloc: Global,
+    // The first `count` boxes hold the messages, the rest are free.
+    boxes: Vec<Box<Message>>,
+    count: u32,
 }
 
 impl Model for Bag {
-    ghost use Rattle.std.specs.Prelude.{◌-◌, ◌^◌, ◌<◌, vec_len, vec_capacity};
-    ghost use Rattle.wire_bag.specs.BagView.{BagView};
+    ghost use Rattle.std.specs.Prelude.{◌-◌, ◌≤◌, vec_len};
+    ghost use Rattle.wire_bag.specs.BagView.{BagView, messages_of};
 
     ghost Value = { BagView };
 
-    ghost view = { λ b. record { messages = b.messages.items; spare = vec_capacity b.messages - vec_len b.messages } };
+    ghost view = { λ b. record { messages = messages_of b.count b.boxes.items; spare = vec_len b.boxes - b.count } };
 
-    ghost invariant = { λ b. vec_len b.messages < 2 ^ 32 };
+    ghost invariant = { λ b. b.count ≤ vec_len b.boxes };
 }
 
 ghost use Rattle.std.specs.Prelude.{◌≡◌, ◌+◌, ◌-◌, ◌^◌, ◌<◌, ◌≤◌, ◌++◌, [], ◌∷◌, length, remove, slice_get, Some, OnOk, OnErr, not};
-ghost use Rattle.wire_bag.specs.BagView.{has_from, is_same};
+ghost use Rattle.std.specs.List.{list_all};
+ghost use Rattle.wire_bag.specs.BagView.{are_from_others, is_same};
 
-fn same(a: Party, b: Party) -> bool
-    ensures { result ≡ is_same a b }
+fn are_from_others(boxes: &[Box<Message>], who: Party) -> bool
+    ensures { result ≡ list_all (λ b. not (is_same b.value.0 who)) boxes.now }
 {
-    match (a, b) {
-        (Party::Client(m), Party::Client(n)) => m == n,
-        (Party::Switch, Party::Switch) => true,
-        (Party::Server(m), Party::Server(n)) => m == n,
-        (Party::Controller, Party::Controller) => true,
-        _ => false,
-    }
-}
-
-fn any_from(messages: &[(Party, Party, Wire)], who: Party) -> bool
-    ensures { result ≡ has_from who messages.now }
-{
-    messages.iter().any(|message| same(message.0, who))
+    boxes.iter().all(|message| message.0 != who)
 }
 
 impl Bag {
@@ -47,8 +43,22 @@ impl Bag {
         ensures { result.messages ≡ [] }
     {
         Bag {
-            messages: Vec::new(alloc),
+            alloc,
+            boxes: Vec::new(alloc),
+            count: 0,
         }
+    }
+
+    fn add_box(&mut self) -> Result<(), Memory>
+        ensures messages { self.new.messages ≡ self.old.messages }
+        ensures spare { OnOk result (self.new.spare ≡ self.old.spare + 1) }
+        ensures full { OnErr result (self.new.spare ≡ self.old.spare) }
+    {
+        self.boxes.reserve(1)?;
+        let nothing = (Party::Switch, Party::Switch, Wire::new());
+        let free = Box::new(self.alloc, nothing).map_err(|_refused| Memory)?;
+        self.boxes.push_reserved(free);
+        Ok(())
     }
 
     /// Makes room for at least `n` more messages. The list stays, also where memory was refused.
@@ -58,7 +68,9 @@ impl Bag {
         ensures kept { self.old.spare ≤ self.new.spare }
         ensures full { OnErr result (self.old.spare < n) }
     {
-        self.messages.reserve(n as usize)?;
+        while self.boxes.len() - (self.count as usize) < n as usize {
+            self.add_box()?;
+        }
         Ok(())
     }
 
@@ -69,7 +81,8 @@ impl Bag {
         ensures messages { self.new.messages ≡ self.old.messages ++ (from, to, wire) ∷ [] }
         ensures spare { self.old.spare ≤ self.new.spare + 1 }
     {
-        self.messages.push_reserved((from, to, wire));
+        *self.boxes[self.count as usize] = (from, to, wire);
+        self.count += 1;
     }
 
     /// Takes the message at place `i` out, counted from 0. The others keep their order.
@@ -79,14 +92,17 @@ impl Bag {
         ensures messages { self.new.messages ≡ remove self.old.messages i }
         ensures spare { self.old.spare ≤ self.new.spare }
     {
-        self.messages.remove(i as usize)
+        let message = self.get(i);
+        self.boxes[i as usize..self.count as usize].rotate_left(1);
+        self.count -= 1;
+        message
     }
 
     /// How many messages there are.
     pub fn count(&self) -> u32
         ensures { result ≡ length self.now.messages }
     {
-        self.messages.len() as u32
+        self.count
     }
 
     /// The message at place `i`, counted from 0, which stays.
@@ -94,13 +110,13 @@ impl Bag {
         requires { i < length self.now.messages }
         ensures { slice_get self.now.messages i ≡ Some result }
     {
-        self.messages[i as usize]
+        *self.boxes[i as usize]
     }
 
     /// Whether no message is from the party.
     pub fn none_from(&self, who: Party) -> bool
-        ensures { result ≡ not (has_from who self.now.messages) }
+        ensures { result ≡ are_from_others who self.now.messages }
     {
-        !any_from(&self.messages, who)
+        are_from_others(&self.boxes[..self.count as usize], who)
     }
 }
