@@ -11,3 +11,6 @@ pub use words::{NUMBER_DIGITS, NUMBER_LIMIT, body_bytes_of, body_of, cut, key_of
 pub use writer::{
     LINE_END, SPACE, Word, put_body, put_key, put_line, put_number, put_text, put_word,
 };
+
+#[cfg(test)]
+mod tests;

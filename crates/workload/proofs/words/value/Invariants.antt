@@ -1,7 +1,0 @@
-use Rattle.std.proofs.Common.{◌≡◌, drop}
-use Rattle.workload.specs.Number.{value_from}
-use Rattle.workload.proofs.words.value.Given as goal
-
--- the number so far and the digits to come give the number of all
-abbrev pub invariant-loop-byte : goal.invariant-loop-byte
-invariant-loop-byte l = value_from l.total (drop l.byte-index l.word) ≡ value_from 0 l.word
