@@ -1,1 +1,4 @@
 pub mod Fronts
+pub mod Digits
+pub mod Cuts
+pub mod Spelling

@@ -2,8 +2,15 @@
 //! stand in.
 #![tactic(auto)]
 
+mod lines;
+mod words;
 mod writer;
 
+pub use lines::Lines;
+pub use words::{NUMBER_DIGITS, NUMBER_LIMIT, body_bytes_of, body_of, cut, key_of, number_of};
 pub use writer::{
     LINE_END, SPACE, Word, put_body, put_key, put_line, put_number, put_text, put_word,
 };
+
+#[cfg(test)]
+mod tests;

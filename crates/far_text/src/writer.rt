@@ -1,8 +1,11 @@
-ghost use Rattle.std.specs.Prelude.{◌≡◌, ◌++◌, ◌∷◌, map, length, take, OnOk, OnErr};
+ghost use Rattle.std.specs.Prelude.{◌≡◌, ◌++◌, ◌∷◌, ◌≤◌, map, length, take, OnOk, OnErr};
 ghost use Rattle.std.specs.Fmt.{decimal};
 ghost use Rattle.far_base.specs.Key.{key_text};
+ghost use Rattle.far_base.specs.Padded.{length_of};
+ghost use Rattle.far_base.specs.declared.body.TheConstants.{BODY_LIMIT};
 ghost use Rattle.far_text.specs.Text.{body_word, after_words, text_line};
 ghost use Rattle.far_text.specs.Spelled.{word_text};
+ghost use Rattle.far_text.specs.Words.{IsKey};
 
 use far_base::{Body, Key, Memory};
 use itoa::Buffer;
@@ -48,32 +51,47 @@ pub fn put_number(out: &mut Vec<u8>, number: u64) -> Result<(), Memory>
 pub fn put_key(out: &mut Vec<u8>, key: &Key) -> Result<(), Memory>
     ensures text { OnOk result (out.new.items ≡ out.old.items ++ key_text key.now) }
     ensures kept { OnErr result (out.new.items ≡ out.old.items) }
+    ensures key { IsKey key.now }
 {
+    // The bytes of a key tell that they are one.
+    let _bytes = key.bytes();
     put_text(out, key.text())
+}
+
+/// Takes away what stands behind the front of so many bytes where memory was refused.
+fn or_front(out: &mut Vec<u8>, end: usize, written: Result<(), Memory>) -> Result<(), Memory>
+    ensures same { result ≡ written }
+    ensures ok { OnOk result (out.new.items ≡ out.old.items) }
+    ensures err { OnErr result (out.new.items ≡ take end out.old.items) }
+{
+    if written.is_err() {
+        out.truncate(end);
+    }
+    written
 }
 
 fn append_body(out: &mut Vec<u8>, body: &Body) -> Result<(), Memory>
     ensures text { OnOk result (out.new.items ≡ out.old.items ++ body_word body.now) }
     ensures front { take (length out.old.items) out.new.items ≡ out.old.items }
+    ensures short { length_of body.now ≤ BODY_LIMIT }
 {
+    let text = body.text();
     if !body.is_present() {
         return put_text(out, b"-");
     }
     put_text(out, b"=")?;
-    put_text(out, body.text())
+    put_text(out, text)
 }
 
 /// Appends `=` and the bytes of the body, or `-` where it is absent. At `Memory` nothing was appended.
 pub fn put_body(out: &mut Vec<u8>, body: &Body) -> Result<(), Memory>
     ensures text { OnOk result (out.new.items ≡ out.old.items ++ body_word body.now) }
     ensures kept { OnErr result (out.new.items ≡ out.old.items) }
+    ensures short { length_of body.now ≤ BODY_LIMIT }
 {
     let end = out.len();
     let written = append_body(out, body);
-    if written.is_err() {
-        out.truncate(end);
-    }
-    written
+    or_front(out, end, written)
 }
 
 /// Appends the word. At `Memory` nothing was appended.
@@ -129,8 +147,5 @@ pub fn put_line(out: &mut Vec<u8>, words: &[Word]) -> Result<(), Memory>
 {
     let end = out.len();
     let written = append_line(out, words);
-    if written.is_err() {
-        out.truncate(end);
-    }
-    written
+    or_front(out, end, written)
 }

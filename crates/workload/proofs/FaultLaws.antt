@@ -5,11 +5,13 @@ use Rattle.std.specs.List.{AllByRecursion}
 use Rattle.far_base.specs.declared.plan.Config.{Config}
 use Rattle.workload.specs.Faults.{IsOpen, IsFaulty, HasFault, Blames, IsFoundAs}
 use Rattle.workload.specs.Forms.{Form, form_of, step, step_by}
+use Rattle.far_text.specs.Pieces.{Pieces, with_byte, pieces, lacks}
+use Rattle.far_text.proofs.Digits.{both_true}
+use Rattle.far_text.proofs.Spelling.{joined, pieces_join, pieces_word, pieces_more}
 use Rattle.workload.specs.Meaning.{IsForm, IsReading}
 use Rattle.workload.specs.Outcome.{◌andthen◌, Gives}
-use Rattle.workload.specs.Reading.{Lines, head_of, line_step, body_from, empty_work, reading}
+use Rattle.workload.specs.Reading.{head_of, line_step, body_from, empty_work, reading}
 use Rattle.workload.specs.Spelling.{head_text, form_text, line_end, lines_text}
-use Rattle.workload.specs.Words.{with_byte, pieces, lacks}
 use Rattle.workload.specs.WorkView.{WorkView}
 use Rattle.workload.specs.declared.fault.WorkFault.{WorkFault}
 use Rattle.workload.specs.declared.fault.WorkFault.TheVariants.{BadLine, TooLarge, Memory}
@@ -17,17 +19,15 @@ use Rattle.workload.proofs.ByLine.{fault_is, same_err, same_ok}
 use Rattle.workload.proofs.FormLaws.{form_takes, form_again, form_lacks}
 use Rattle.workload.proofs.HeadLaws.{head_takes, head_again}
 use Rattle.workload.proofs.LineLaws.{bind_ok, steps, some_form, body_step}
-use Rattle.workload.proofs.Numbers.{both_true}
 use Rattle.workload.proofs.ReadingLaws.{empty_within}
-use Rattle.workload.proofs.Spelled.{joined, pieces_join, pieces_word, pieces_more}
 use Rattle.workload.proofs.StepLaws.{AddsForms, steps_take, steps_again}
 
 -- ---- pieces lack the byte between them
 
-abbrev AreWhole : Lines → Type 0
+abbrev AreWhole : Pieces → Type 0
 AreWhole lines = AllByRecursion (λ piece. lacks 10 piece ≡ true) lines
 
-byte_lacks : (b : ℕ) (lines : Lines) → nat_eq b 10 ≡ false → AreWhole lines → AreWhole (with_byte b lines)
+byte_lacks : (b : ℕ) (lines : Pieces) → nat_eq b 10 ≡ false → AreWhole lines → AreWhole (with_byte b lines)
 byte_lacks b [] e h = (rw e refl, tt)
 byte_lacks b (piece ∷ more) e h = (both_true _ _ (ap not e) h.0, h.1)
 
@@ -55,7 +55,7 @@ record Stuck (n : ℕ) (w : WorkView) (text : List ℕ) (fault : WorkFault) : Ty
   behind : number ≡ n + length forms + 1
   at : At number read rest fault
 
-one_line : (n : ℕ) (w : WorkView) (line : List ℕ) (more : Lines) (next : List ℕ) (fault : WorkFault) → lacks 10 line ≡ true
+one_line : (n : ℕ) (w : WorkView) (line : List ℕ) (more : Pieces) (next : List ℕ) (fault : WorkFault) → lacks 10 line ≡ true
     → ((read : WorkView) → body_from (n + 1) read (next ∷ more) ≡ Err fault → Stuck (n + 1) read (joined 10 (next ∷ more)) fault)
     → (r : Result WorkView WorkFault) → line_step (n + 1) w line ≡ r → (r andthen λ read. body_from (n + 1) read (next ∷ more)) ≡ Err fault → Stuck n w (line ++ 10 ∷ joined 10 (next ∷ more)) fault
 one_line n w line more next fault l ih (Ok read) s e =
@@ -87,7 +87,7 @@ one_line n w line more next fault l ih (Err other) s e =
       at = inr (record { line = line; others = joined 10 (next ∷ more); whole = refl; one = l; fails = s ∙ ap (λ (x : WorkFault). fault_is {A = WorkView} x) same });
     }
 
-stuck : (n : ℕ) (w : WorkView) (lines : Lines) (fault : WorkFault) → AreWhole lines → body_from n w lines ≡ Err fault → Stuck n w (joined 10 lines) fault
+stuck : (n : ℕ) (w : WorkView) (lines : Pieces) (fault : WorkFault) → AreWhole lines → body_from n w lines ≡ Err fault → Stuck n w (joined 10 lines) fault
 unfolding body_from
 stuck n w [] fault h e = absurd cc
 stuck n w ([] ∷ []) fault h e = absurd cc
@@ -106,11 +106,11 @@ stuck n w ((b ∷ bs) ∷ []) fault h e =
     }
 stuck n w (line ∷ next ∷ more) fault h e = one_line n w line more next fault h.0 (λ read f. stuck (n + 1) read (next ∷ more) fault h.1 f) (line_step (n + 1) w line) refl e
 
-by_head : (text : List ℕ) (fault : WorkFault) (r : Result (Config × Lines) WorkFault) → head_of (pieces 10 text) ≡ r → (r andthen λ head. body_from 5 (empty_work head.0) head.1) ≡ Err fault → HasFault text fault
-by_head text fault (Err other) h e = inl (h ∙ ap (λ (x : WorkFault). fault_is {A = Config × Lines} x) (same_err WorkView other fault e))
+by_head : (text : List ℕ) (fault : WorkFault) (r : Result (Config × Pieces) WorkFault) → head_of (pieces 10 text) ≡ r → (r andthen λ head. body_from 5 (empty_work head.0) head.1) ≡ Err fault → HasFault text fault
+by_head text fault (Err other) h e = inl (h ∙ ap (λ (x : WorkFault). fault_is {A = Config × Pieces} x) (same_err WorkView other fault e))
 by_head text fault (Ok head) h e =
     let a = head_takes text head h in
-    let f : body_from 5 (empty_work head.0) (pieces 10 a.rest) ≡ Err fault = ap (λ (l : Lines). body_from 5 (empty_work head.0) l) (sym a.behind) ∙ e in
+    let f : body_from 5 (empty_work head.0) (pieces 10 a.rest) ≡ Err fault = ap (λ (l : Pieces). body_from 5 (empty_work head.0) l) (sym a.behind) ∙ e in
     let b = stuck 5 (empty_work head.0) (pieces 10 a.rest) fault (pieces_lack a.rest) f in
     let s = steps_take 5 (empty_work head.0) b.read b.forms b.steps b.fit (empty_within head.0 a.fits) in
     let rest : a.rest ≡ lines_text b.forms ++ b.rest = sym (pieces_join 10 a.rest) ∙ b.spelled in
@@ -149,7 +149,7 @@ body_front n w v (form ∷ forms) rest h e =
     let regroup : lines_text (form ∷ forms) ++ rest ≡ form_text form ++ 10 ∷ (lines_text forms ++ rest) = append_assoc (form_text form ++ line_end) (lines_text forms) rest ∙ append_assoc (form_text form) line_end (lines_text forms ++ rest) in
     let read : line_step (n + 1) w (form_text form) ≡ Ok a.0 = ap (step_by (n + 1) w) (form_again form h.0) ∙ a.1 in
     ap (λ (l : List ℕ). body_from n w (pieces 10 l)) regroup
-    ∙ ap (λ (l : Lines). body_from n w l) (pieces_more 10 (form_text form) (lines_text forms ++ rest) (form_lacks form h.0))
+    ∙ ap (λ (l : Pieces). body_from n w l) (pieces_more 10 (form_text form) (lines_text forms ++ rest) (form_lacks form h.0))
     ∙ body_step n w (form_text form) (lines_text forms ++ rest)
     ∙ ap (λ (r : Result WorkView WorkFault). r andthen λ read. body_from (n + 1) read (pieces 10 (lines_text forms ++ rest))) read
     ∙ body_front (n + 1) a.0 v forms rest h.1 a.2
@@ -159,15 +159,15 @@ at_again : (n number : ℕ) (v : WorkView) (rest : List ℕ) (fault : WorkFault)
 unfolding body_from
 at_again n number v rest fault k (inl h) =
     let pieces_are : pieces 10 rest ≡ (h.first ∷ h.others) ∷ [] = pieces_word 10 rest h.no_end ∙ ap (λ (l : List ℕ). l ∷ []) h.some in
-    ap (λ (l : Lines). body_from n v l) pieces_are ∙ ap (λ (m : ℕ). fault_is {A = WorkView} (BadLine m)) (sym k) ∙ ap (λ (x : WorkFault). fault_is {A = WorkView} x) (sym h.named)
+    ap (λ (l : Pieces). body_from n v l) pieces_are ∙ ap (λ (m : ℕ). fault_is {A = WorkView} (BadLine m)) (sym k) ∙ ap (λ (x : WorkFault). fault_is {A = WorkView} x) (sym h.named)
 at_again n number v rest fault k (inr h) =
     let pieces_are : pieces 10 rest ≡ h.line ∷ pieces 10 h.others = ap (pieces 10) h.whole ∙ pieces_more 10 h.line h.others h.one in
     let failed : line_step (n + 1) v h.line ≡ Err fault = ap (λ (m : ℕ). line_step m v h.line) (sym k) ∙ h.fails in
-    ap (λ (l : Lines). body_from n v l) pieces_are ∙ body_step n v h.line h.others ∙ ap (λ (r : Result WorkView WorkFault). r andthen λ read. body_from (n + 1) read (pieces 10 h.others)) failed
+    ap (λ (l : Pieces). body_from n v l) pieces_are ∙ body_step n v h.line h.others ∙ ap (λ (r : Result WorkView WorkFault). r andthen λ read. body_from (n + 1) read (pieces 10 h.others)) failed
 
 fault_again : (text : List ℕ) (fault : WorkFault) → HasFault text fault → reading text ≡ Err fault
 unfolding reading
-fault_again text fault (inl h) = ap (λ (r : Result (Config × Lines) WorkFault). r andthen λ head. body_from 5 (empty_work head.0) head.1) h
+fault_again text fault (inl h) = ap (λ (r : Result (Config × Pieces) WorkFault). r andthen λ head. body_from 5 (empty_work head.0) head.1) h
 fault_again text fault (inr h) =
     let w : WorkView = h.before in
     let f : List Form = h.read.forms in
@@ -175,7 +175,7 @@ fault_again text fault (inr h) =
     let read : steps 5 (empty_work w.plan.config) f ≡ Ok w = steps_again 5 (empty_work w.plan.config) w f adds h.read.within in
     let whole : text ≡ head_text w.plan.config ++ (lines_text f ++ h.rest) = h.whole ∙ ap (λ (l : List ℕ). l ++ h.rest) h.read.spelled ∙ append_assoc (head_text w.plan.config) (lines_text f) h.rest in
     ap (λ (t : List ℕ). head_of (pieces 10 t) andthen λ head. body_from 5 (empty_work head.0) head.1) whole
-    ∙ ap (λ (r : Result (Config × Lines) WorkFault). r andthen λ head. body_from 5 (empty_work head.0) head.1) (head_again w.plan.config (lines_text f ++ h.rest) h.read.within.plain.plan.config)
+    ∙ ap (λ (r : Result (Config × Pieces) WorkFault). r andthen λ head. body_from 5 (empty_work head.0) head.1) (head_again w.plan.config (lines_text f ++ h.rest) h.read.within.plain.plan.config)
     ∙ body_front 5 (empty_work w.plan.config) w f h.rest h.read.fit read
     ∙ at_again (5 + length f) h.number w h.rest fault (omega (arith, h.behind)) h.at
 

@@ -12,13 +12,17 @@ use Rattle.far_base.specs.declared.plan.Order.{Order}
 use Rattle.far_base.specs.declared.plan.Order.TheVariants.{Admit as AdmitOrder, Evict as EvictOrder, Snap as SnapOrder, Stop as StopOrder, StopAt as StopAtOrder}
 use Rattle.workload.specs.Forms.{Form, OfOp, OfOrder, OfPicks, OfRandom, an_op, stop_by, stop_of, form_by, form_of}
 use Rattle.workload.specs.Kinds.{kind_name, kind_of}
-use Rattle.workload.specs.Meaning.{IsNumber, IsKey, IsOpForm, IsOrderForm, AreNumbers, IsForm}
-use Rattle.workload.specs.Outcome.{◌>>=◌}
+use Rattle.far_text.specs.Numbers.{IsNumber, number_of}
+use Rattle.far_text.specs.Words.{IsKey}
+use Rattle.far_text.specs.Options.{◌>>=◌}
+use Rattle.far_text.specs.Pieces.{lacks, pieces, cut_at}
+use Rattle.far_text.proofs.Spelling.{some_is, bind_some, lacks_join, visible_lacks, cut_takes, cut_again, cut_none, number_is, number_lacks, key_lacks}
+use Rattle.workload.specs.Meaning.{IsOpForm, IsOrderForm, AreNumbers, IsForm}
 use Rattle.workload.specs.Spelling.{number_key_text, verb_text, body_text, op_text, order_text, spaced, form_text}
-use Rattle.workload.specs.Words.{lacks, pieces, cut_at, number_of, numbers_of, verb_of, number_and_key, put_words}
+use Rattle.workload.specs.Words.{numbers_of, verb_of, number_and_key, put_words}
 use Rattle.workload.specs.declared.words.Verb.{Verb}
 use Rattle.workload.specs.declared.words.Verb.TheVariants.{Get, Put, Del, Admit, Evict, Snap, Stop, Picks, Random}
-use Rattle.workload.proofs.Spelled.{some_is, bind_some, lacks_join, visible_lacks, cut_takes, cut_again, cut_none, number_is, number_lacks, key_lacks, number_key_words, number_key_is, put_text, put_is, numbers_text, numbers_is}
+use Rattle.workload.proofs.Spelled.{number_key_words, number_key_is, put_text, put_is, numbers_text, numbers_is}
 use Rattle.workload.proofs.KindLaws.{kind_takes, kind_again, kind_lacks}
 
 -- ---- the first word

@@ -14,24 +14,12 @@ use Rattle.far_base.specs.Limits.{IsOpLine, FitsOp}
 use Rattle.far_base.specs.declared.plan.Op.{Op}
 use Rattle.far_base.specs.declared.plan.Op.TheVariants.{Get, Put, Del}
 use Rattle.far_base.specs.declared.plan.TheConstants.{OP_LIMIT, STEP_LIMIT}
+use Rattle.far_text.proofs.Spelling.{number_visible}
 use Rattle.workload.specs.Plain.{IsPlain}
 use Rattle.workload.specs.WorkView.{WorkView}
-use Rattle.workload.specs.Number.{is_digit}
+use Rattle.far_text.proofs.Digits.{both_true}
 use Rattle.workload.specs.Draws.{lettered, after, choice_from, body_by, op_with, ops_from, seeded, generated}
 use Rattle.workload.specs.declared.generator.Choice.{Choice}
-use Rattle.workload.proofs.Numbers.{and_true, both_true, decimal_digits}
-
-pub digits_visible : (w : List ℕ) → list_all is_digit w ≡ true → list_all is_visible w ≡ true
-digits_visible [] h = refl
-digits_visible (c ∷ cs) h =
-    let a : (is_digit c ≡ true) × (list_all is_digit cs ≡ true) = and_true _ _ h in
-    let b : (nat_le 48 c ≡ true) × (nat_le c 57 ≡ true) = and_true _ _ a.0 in
-    let low : nat_le 33 c ≡ true = grind (arith, nat_tests) in
-    let high : nat_le c 126 ≡ true = grind (arith, nat_tests) in
-    both_true _ _ (both_true _ _ low high) (digits_visible cs a.1)
-
-pub number_visible : (n : ℕ) → n < 10 ^ 19 → list_all is_visible (decimal n) ≡ true
-number_visible n lt = digits_visible (decimal n) (decimal_digits n lt)
 
 pub is_key : (n : ℕ) → n < 2048 → IsTrue (is_key_text (lettered 107 n))
 is_key n lt =

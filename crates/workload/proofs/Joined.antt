@@ -3,18 +3,20 @@ use Rattle.std.proofs.Common.{◌≡◌, ℕ, suc, ◌+◌, ◌<◌, ◌≤◌, 
 use Rattle.std.specs.Prelude.{Option, Some, None, Result, Ok, Err, nat_le, nat_lt, if◌then◌else◌}
 use Rattle.std.proofs.lemmas.Bool.Decides.{nat_tests}
 use Rattle.std.proofs.lemmas.List.{length-append}
-use Rattle.workload.specs.Outcome.{◌>>=◌, ◌andthen◌, Gives, Fails}
-use Rattle.workload.specs.Words.{pieces, cut_at, number_of, numbers_of}
+use Rattle.far_text.specs.Options.{◌>>=◌}
+use Rattle.far_text.specs.Pieces.{pieces, cut_at, Pieces}
+use Rattle.far_text.specs.Numbers.{number_of}
+use Rattle.far_text.proofs.Cuts.{pieces_cut, some_piece}
+use Rattle.workload.specs.Outcome.{◌andthen◌, Gives, Fails}
+use Rattle.workload.specs.Words.{numbers_of}
 use Rattle.workload.specs.Forms.{OfPicks, step_by, with_picks, form_by}
 use Rattle.workload.specs.Joining.{pushed_by, pushed, whole, joined_from}
-use Rattle.workload.specs.Reading.{Lines}
 use Rattle.workload.specs.WorkView.{WorkView}
 use Rattle.workload.specs.declared.fault.Limit.TheVariants.{Picks as PickCount}
 use Rattle.workload.specs.declared.fault.WorkFault.{WorkFault}
 use Rattle.workload.specs.declared.fault.WorkFault.TheVariants.{BadLine, TooLarge, Memory}
 use Rattle.workload.specs.declared.load.TheConstants.{PICK_LIMIT}
 use Rattle.workload.specs.declared.words.Verb.TheVariants.{Picks}
-use Rattle.workload.proofs.Pieces.{pieces_cut, some_piece}
 
 abbrev counted : ℕ → List ℕ → List ℕ → Result (List ℕ) WorkFault
 counted line picks ns = if nat_le (length picks + length ns) PICK_LIMIT then Ok (picks ++ ns) else Err (TooLarge PickCount line)
@@ -59,7 +61,7 @@ one_number line room picks n (Some ns) =
       | false ↦ λ e. let le : PICK_LIMIT ≤ length picks = grind (arith, nat_tests) in no_room line picks n ns le
     ] refl
 
-step_over : (line : ℕ) (picks : List ℕ) (n : ℕ) (words : Lines) → ((p : Bool × List ℕ) → joined_from line p.0 p.1 words ≡ by_numbers line p.0 p.1 (numbers_of words))
+step_over : (line : ℕ) (picks : List ℕ) (n : ℕ) (words : Pieces) → ((p : Bool × List ℕ) → joined_from line p.0 p.1 words ≡ by_numbers line p.0 p.1 (numbers_of words))
     → (pushed_by line picks (Some n) andthen λ p. joined_from line p.0 p.1 words) ≡ (pushed_by line picks (Some n) andthen λ p. by_numbers line p.0 p.1 (numbers_of words))
 step_over line picks n words ih =
     elim (nat_lt (length picks) PICK_LIMIT) as (λ v. (tried line picks n v andthen λ p. joined_from line p.0 p.1 words) ≡ (tried line picks n v andthen λ p. by_numbers line p.0 p.1 (numbers_of words))) [
@@ -67,12 +69,12 @@ step_over line picks n words ih =
       | false ↦ ih (false, picks)
     ]
 
-by_word : (line : ℕ) (room : Bool) (picks : List ℕ) (words : Lines) (read : Option ℕ) → ((p : Bool × List ℕ) → joined_from line p.0 p.1 words ≡ by_numbers line p.0 p.1 (numbers_of words))
+by_word : (line : ℕ) (room : Bool) (picks : List ℕ) (words : Pieces) (read : Option ℕ) → ((p : Bool × List ℕ) → joined_from line p.0 p.1 words ≡ by_numbers line p.0 p.1 (numbers_of words))
     → (pushed_by line picks read andthen λ p. joined_from line p.0 p.1 words) ≡ by_numbers line room picks (read >>= λ n. numbers_of words >>= λ ns. Some (n ∷ ns))
 by_word line room picks words None ih = refl
 by_word line room picks words (Some n) ih = step_over line picks n words ih ∙ one_number line room picks n (numbers_of words)
 
-joined_is : (line : ℕ) (room : Bool) (picks : List ℕ) (words : Lines) → joined_from line room picks words ≡ by_numbers line room picks (numbers_of words)
+joined_is : (line : ℕ) (room : Bool) (picks : List ℕ) (words : Pieces) → joined_from line room picks words ≡ by_numbers line room picks (numbers_of words)
 joined_is line room picks [] = refl
 joined_is line room picks (word ∷ words) = by_word line room picks words (number_of word) (λ p. joined_is line p.0 p.1 words)
 

@@ -5,8 +5,8 @@ use Rattle.std.proofs.lemmas.Slice.Eq.{bytes_eq-Decides}
 use Rattle.far_base.specs.declared.plan.PassKind.{PassKind}
 use Rattle.far_base.specs.declared.plan.PassKind.TheVariants.{GetReq, WriteReq, GetRep, WriteRep, Admit, Peek, Remove, SnapStart, SnapRead}
 use Rattle.workload.specs.Kinds.{kind_name, kind_of}
-use Rattle.workload.specs.Words.{lacks}
-use Rattle.workload.proofs.Spelled.{some_is}
+use Rattle.far_text.specs.Pieces.{lacks}
+use Rattle.far_text.proofs.Spelling.{some_is}
 
 this_or : (w : List ℕ) (v x : PassKind) (rest : Option PassKind) → (rest ≡ Some x → w ≡ kind_name x) → cond (bytes_eq w (kind_name v)) (Some v) rest ≡ Some x → w ≡ kind_name x
 this_or w v x rest h given =

@@ -1,5 +1,4 @@
-pub mod Numbers
-pub mod Pieces
+pub mod NextLine
 pub mod Generated
 pub mod Joined
 pub mod ByLine

@@ -12,7 +12,8 @@ use Rattle.far_base.specs.declared.plan.Order.{Order}
 use Rattle.far_base.specs.declared.plan.Order.TheVariants.{Admit, Evict, Snap, Stop, StopAt}
 use Rattle.far_base.specs.declared.plan.TheConstants.{CLIENT_LIMIT, STEP_LIMIT}
 use Rattle.workload.specs.Forms.{Form, OfOp, OfOrder, OfPicks}
-use Rattle.workload.specs.Meaning.{IsNumber, IsForm, IsOrderForm, AreNumbers, IsWholeOp, IsWholeOrder, op_in, order_in, picks_in, random_in, starts, Name, IsReading}
+use Rattle.far_text.specs.Numbers.{IsNumber}
+use Rattle.workload.specs.Meaning.{IsForm, IsOrderForm, AreNumbers, IsWholeOp, IsWholeOrder, op_in, order_in, picks_in, random_in, starts, Name, IsReading}
 use Rattle.workload.specs.Plain.{IsStart, IsPlain}
 use Rattle.workload.specs.Spelling.{with_number, rows, rows_from, random_forms, forms_of, spelling}
 use Rattle.workload.specs.WorkView.{WorkView}

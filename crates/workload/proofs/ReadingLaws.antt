@@ -3,19 +3,19 @@ use Rattle.std.proofs.Common.{◌≡◌, ℕ, List, ◌++◌, refl, sym, ap, ◌
 use Rattle.std.specs.Prelude.{Result, Ok, Err, IfOk}
 use Rattle.far_base.specs.Limits.{IsConfig}
 use Rattle.far_base.specs.declared.plan.Config.{Config}
+use Rattle.far_text.specs.Pieces.{Pieces, pieces}
+use Rattle.far_text.proofs.Spelling.{joined, pieces_join}
 use Rattle.workload.specs.Meaning.{IsWithin, IsReading, IsReadAs}
 use Rattle.workload.specs.Outcome.{◌andthen◌, Gives}
 use Rattle.workload.specs.Plain.{IsPlain}
-use Rattle.workload.specs.Reading.{Lines, head_of, body_from, empty_work, reading}
+use Rattle.workload.specs.Reading.{head_of, body_from, empty_work, reading}
 use Rattle.workload.specs.Spelling.{head_text, lines_text}
-use Rattle.workload.specs.Words.{pieces}
 use Rattle.workload.specs.WorkView.{WorkView}
 use Rattle.workload.specs.declared.fault.WorkFault.{WorkFault}
 use Rattle.workload.specs.declared.fault.WorkFault.TheVariants.{BadLine, TooLarge, Memory}
 use Rattle.workload.proofs.ByLine.{same_ok}
 use Rattle.workload.proofs.HeadLaws.{head_takes, head_again}
 use Rattle.workload.proofs.LineLaws.{bind_ok, body_takes, body_again}
-use Rattle.workload.proofs.Spelled.{joined, pieces_join}
 use Rattle.workload.proofs.StepLaws.{AddsForms, steps_take, steps_again}
 
 pub empty_within : (config : Config) → IsConfig config → IsWithin (empty_work config)
@@ -50,7 +50,7 @@ unfolding reading
 reading_again text w h =
     let adds : AddsForms (empty_work w.plan.config) w h.forms = record { config = refl; ops = sym h.name.ops; orders = sym h.name.orders; picks = sym h.name.picks; random = sym h.name.random } in
     ap (λ (t : List ℕ). head_of (pieces 10 t) andthen λ head. body_from 5 (empty_work head.0) head.1) h.spelled
-    ∙ ap (λ (r : Result (Config × Lines) WorkFault). r andthen λ head. body_from 5 (empty_work head.0) head.1) (head_again w.plan.config (lines_text h.forms) h.within.plain.plan.config)
+    ∙ ap (λ (r : Result (Config × Pieces) WorkFault). r andthen λ head. body_from 5 (empty_work head.0) head.1) (head_again w.plan.config (lines_text h.forms) h.within.plain.plan.config)
     ∙ body_again 5 (empty_work w.plan.config) h.forms h.fit
     ∙ steps_again 5 (empty_work w.plan.config) w h.forms adds h.within
 

@@ -14,7 +14,8 @@ use Rattle.far_base.specs.declared.plan.Order.{Order}
 use Rattle.far_base.specs.declared.plan.Order.TheVariants.{Admit, Evict, Snap, Stop, StopAt}
 use Rattle.far_base.specs.declared.plan.TheConstants.{OP_LIMIT, ORDER_LIMIT, SNAP_LIMIT, STOP_LIMIT, STEP_LIMIT}
 use Rattle.workload.specs.Forms.{Form, OfOp, OfOrder, OfPicks, OfRandom, with_op, with_order, with_picks, with_random, op_counted, op_short, op_step, passed, unless, order_step, picks_step, random_by, step}
-use Rattle.workload.specs.Meaning.{IsNumber, IsOpForm, IsOrderForm, IsForm, op_in, order_in, picks_in, random_in, starts, IsWithin}
+use Rattle.far_text.specs.Numbers.{IsNumber}
+use Rattle.workload.specs.Meaning.{IsOpForm, IsOrderForm, IsForm, op_in, order_in, picks_in, random_in, starts, IsWithin}
 use Rattle.workload.specs.Outcome.{◌andthen◌}
 use Rattle.workload.specs.WorkView.{WorkView}
 use Rattle.workload.specs.declared.fault.Limit.{Limit}

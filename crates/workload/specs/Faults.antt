@@ -1,9 +1,9 @@
 -- Which line of a text is the first with a fault.
 use Rattle.std.specs.Prelude.{◌≡◌, ◌⊎◌, ℕ, ◌+◌, true, List, ◌∷◌, ◌++◌, length, Result, Ok, Err}
 use Rattle.workload.specs.Forms.{form_of, step_by}
+use Rattle.far_text.specs.Pieces.{pieces, lacks}
 use Rattle.workload.specs.Meaning.{IsReading}
 use Rattle.workload.specs.Reading.{head_of}
-use Rattle.workload.specs.Words.{pieces, lacks}
 use Rattle.workload.specs.WorkView.{WorkView}
 use Rattle.workload.specs.declared.fault.WorkFault.{WorkFault}
 use Rattle.workload.specs.declared.fault.WorkFault.TheVariants.{BadLine, TooLarge, Memory}

@@ -11,8 +11,10 @@ use Rattle.far_base.specs.declared.plan.Order.{Order}
 use Rattle.far_base.specs.declared.plan.Order.TheVariants.{Admit as AdmitOrder, Evict as EvictOrder, Snap as SnapOrder, Stop as StopOrder, StopAt as StopAtOrder}
 use Rattle.far_base.specs.declared.plan.TheConstants.{OP_LIMIT, ORDER_LIMIT, SNAP_LIMIT, STOP_LIMIT}
 use Rattle.workload.specs.Kinds.{kind_of}
-use Rattle.workload.specs.Outcome.{◌>>=◌}
-use Rattle.workload.specs.Words.{cut_at, pieces, number_of, numbers_of, verb_of, number_and_key, put_words}
+use Rattle.far_text.specs.Options.{◌>>=◌}
+use Rattle.far_text.specs.Pieces.{cut_at, pieces}
+use Rattle.far_text.specs.Numbers.{number_of}
+use Rattle.workload.specs.Words.{numbers_of, verb_of, number_and_key, put_words}
 use Rattle.workload.specs.WorkView.{WorkView}
 use Rattle.workload.specs.declared.fault.Limit.{Limit}
 use Rattle.workload.specs.declared.fault.Limit.TheVariants.{Body, Ops, Orders, Snaps, Stops, Picks as PickCount}

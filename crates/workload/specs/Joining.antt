@@ -1,7 +1,7 @@
 -- Parts of a step as the parser takes them.
 use Rattle.std.specs.Prelude.{ℕ, Bool, true, false, List, [], ◌∷◌, ◌++◌, length, Option, Some, None, Result, Ok, Err, nat_lt, if◌then◌else◌}
+use Rattle.far_text.specs.Numbers.{number_of}
 use Rattle.workload.specs.Outcome.{◌andthen◌}
-use Rattle.workload.specs.Words.{number_of}
 use Rattle.workload.specs.declared.fault.Limit.TheVariants.{Picks}
 use Rattle.workload.specs.declared.fault.WorkFault.{WorkFault}
 use Rattle.workload.specs.declared.fault.WorkFault.TheVariants.{BadLine, TooLarge}

@@ -1,5 +1,4 @@
 pub mod WorkView
-pub mod Number
 pub mod Outcome
 pub mod Words
 pub mod Kinds

@@ -1,27 +1,20 @@
 -- What it means that a text is a workload.
-use Rattle.std.specs.Prelude.{◌≡◌, ℕ, ◌≤◌, List, [], ◌∷◌, ◌++◌, length, Option, None, Some, Result, Ok, Err, IsTrue}
+use Rattle.std.specs.Prelude.{◌≡◌, ℕ, ◌≤◌, List, [], ◌∷◌, ◌++◌, length, Option, None, Some, Result, Ok, Err}
 use Rattle.std.specs.List.{flat_map, AllByRecursion}
-use Rattle.far_base.specs.Key.{is_key}
 use Rattle.far_base.specs.Limits.{FitsOp}
 use Rattle.far_base.specs.Padded.{length_of}
 use Rattle.far_base.specs.declared.body.TheConstants.{BODY_LIMIT}
 use Rattle.far_base.specs.declared.plan.OpLine.{OpLine}
 use Rattle.far_base.specs.declared.plan.Order.{Order}
 use Rattle.far_base.specs.declared.plan.Order.TheVariants.{Admit, Evict, Snap, Stop, StopAt}
-use Rattle.far_base.specs.declared.plan.TheConstants.{STEP_LIMIT}
+use Rattle.far_text.specs.Numbers.{IsNumber}
+use Rattle.far_text.specs.Words.{IsKey}
 use Rattle.workload.specs.Forms.{Form, OfOp, OfOrder, OfPicks, OfRandom}
 use Rattle.workload.specs.Plain.{IsPlain}
 use Rattle.workload.specs.Spelling.{head_text, lines_text}
 use Rattle.workload.specs.WorkView.{WorkView}
 use Rattle.workload.specs.declared.fault.WorkFault.{WorkFault}
 use Rattle.workload.specs.declared.fault.WorkFault.TheVariants.{BadLine, TooLarge, Memory}
-
--- a number of at most nineteen digits
-abbrev pub IsNumber : ℕ → Type 0
-IsNumber n = n ≤ STEP_LIMIT
-
-abbrev pub IsKey : List ℕ → Type 0
-IsKey key = IsTrue (is_key key)
 
 -- ---- the lines that can be written
 

@@ -1,23 +1,13 @@
 -- How what a function answers agrees with what reading gives.
-use Rattle.std.specs.Prelude.{◌≡◌, Option, Some, None, Result, Ok, Err}
+use Rattle.std.specs.Prelude.{◌≡◌, Result, Ok, Err}
 use Rattle.workload.specs.declared.fault.WorkFault.{WorkFault}
 use Rattle.workload.specs.declared.fault.WorkFault.TheVariants.{BadLine, TooLarge, Memory}
-
-infixl 10 ◌>>=◌
-abbrev pub ◌>>=◌ : {A B : Type 0} → Option A → (A → Option B) → Option B
-(Some x) >>= f = f x
-None >>= f = None
 
 -- the next step where the one before found no fault
 infixl 10 ◌andthen◌
 abbrev pub ◌andthen◌ : {A B : Type 0} → Result A WorkFault → (A → Result B WorkFault) → Result B WorkFault
 (Ok x) andthen f = f x
 (Err fault) andthen f = Err fault
-
--- what was found, seen by view, is what reading gives
-abbrev pub Shows : {A B : Type 0} → (A → B) → Option A → Option B → Type 0
-Shows view (Some x) read = read ≡ Some (view x)
-Shows view None read = read ≡ None
 
 -- a fault is the one that reading gives; want of memory says nothing
 abbrev pub Fails : {B : Type 0} → WorkFault → Result B WorkFault → Type 0

@@ -8,6 +8,7 @@ use Rattle.far_base.specs.declared.plan.Op.TheVariants.{Get, Put, Del}
 use Rattle.far_base.specs.declared.plan.OpLine.{OpLine}
 use Rattle.far_base.specs.declared.plan.Order.{Order}
 use Rattle.far_base.specs.declared.plan.Order.TheVariants.{Admit, Evict, Snap, Stop, StopAt}
+use Rattle.far_text.specs.Text.{body_word}
 use Rattle.workload.specs.Forms.{Form, OfOp, OfOrder, OfPicks, OfRandom}
 use Rattle.workload.specs.Kinds.{kind_name}
 use Rattle.workload.specs.WorkView.{WorkView}
@@ -37,7 +38,7 @@ verb_text Del = codes "del "
 -- the word of a body that is there, behind its space
 abbrev pub body_text : Option (List ℕ) → List ℕ
 body_text None = []
-body_text (Some text) = codes " =" ++ text
+body_text (Some text) = 32 ∷ body_word (Some text)
 
 abbrev pub op_text : OpLine → List ℕ
 op_text line = number_key_text (verb_text line.op) line.client line.key ++ body_text line.body

@@ -1,8 +1,8 @@
 ghost use Rattle.std.specs.Prelude.{◌≡◌, ◌≤◌, ◌<◌, ◌^◌, length, true, IfOk};
 ghost use Rattle.far_base.specs.Limits.{is_slot_order, is_snap, is_stop};
 ghost use Rattle.far_base.specs.declared.plan.Op.TheVariants.{Get as ReadOp, Del as DelOp};
+ghost use Rattle.far_text.specs.Pieces.{pieces};
 ghost use Rattle.workload.specs.Outcome.{Gives};
-ghost use Rattle.workload.specs.Words.{pieces};
 ghost use Rattle.workload.specs.Forms.{op_counted, order_step, passed, step_by, form_by};
 ghost use Rattle.workload.specs.Reading.{line_step, reading};
 ghost use Rattle.workload.specs.Meaning.{IsReading, IsReadAs};
@@ -14,10 +14,11 @@ ghost use Rattle.workload.specs.Joining.{client_in, pushed, joined_from};
 ghost use Rattle.workload.specs.declared.words.Verb.TheVariants.{Get, Put, Del, Admit, Evict, Snap, Stop, Picks, Random};
 
 use crate::fault::{Limit, WorkFault};
-use crate::lines::Lines;
+use crate::lines::{head, next_line};
 use crate::load::{PICK_LIMIT, Workload};
-use crate::words::{Verb, cut, number_and_key, number_of, put_words, stop_of};
+use crate::words::{Verb, number_and_key, put_words, stop_of};
 use far_base::{Body, OP_LIMIT, ORDER_LIMIT, Op, OpLine, Order, SNAP_LIMIT, STOP_LIMIT};
+use far_text::{Lines, cut, number_of};
 use std::alloc::Global;
 
 fn is_slot_order(order: &Order) -> bool
@@ -258,14 +259,11 @@ fn read_text(alloc: Global, text: &[u8]) -> Result<Workload, WorkFault>
     requires { length text.now < 2 ^ 32 }
     ensures { Gives (λ w. w) result (reading text.now) }
 {
-    let mut lines = Lines {
-        rest: text,
-        read: 0,
-    };
-    let config = lines.head()?;
+    let mut lines = Lines::new(text);
+    let config = head(&mut lines)?;
     let mut load = Workload::empty(alloc, config);
     while !lines.rest.is_empty() {
-        let line = lines.next_line()?;
+        let line = next_line(&mut lines)?;
         load.take_line(lines.read, line)?;
     }
     Ok(load)

@@ -3,7 +3,8 @@ ghost use Rattle.std.specs.List.{AllByRecursion};
 ghost use Rattle.far_base.specs.Key.{key_text};
 ghost use Rattle.far_base.specs.Padded.{length_of};
 ghost use Rattle.far_base.specs.declared.body.TheConstants.{BODY_LIMIT};
-ghost use Rattle.workload.specs.Meaning.{IsKey, IsWholeOp, IsWholeOrder, IsReading};
+ghost use Rattle.far_text.specs.Words.{IsKey};
+ghost use Rattle.workload.specs.Meaning.{IsWholeOp, IsWholeOrder, IsReading};
 ghost use Rattle.far_base.specs.declared.plan.Order.TheVariants.{StopAt};
 ghost use Rattle.workload.specs.Kinds.{kind_name};
 ghost use Rattle.workload.specs.Forms.{OfOp, OfOrder, OfPicks};
@@ -14,72 +15,55 @@ ghost use Rattle.workload.specs.declared.printer.TheConstants.{PICKS_PER_LINE};
 
 use crate::load::Workload;
 use far_base::{Body, Config, Key, Memory, Op, OpLine, Order, PassKind};
-use itoa::Buffer;
+use far_text::{put_body, put_key, put_number, put_text};
 use std::alloc::Global;
 
 /// The number of picks in a line; the last line has the rest.
 pub const PICKS_PER_LINE: u32 = 1000;
 
-fn put(out: &mut Vec<u8>, text: &[u8]) -> Result<(), Memory>
-    ensures { IfOk result (λ _. out.new.items ≡ out.old.items ++ text.now) }
-{
-    out.extend_from_slice(text)?;
-    Ok(())
-}
-
 /// Writes the text and the number behind it.
-fn put_number(out: &mut Vec<u8>, text: &[u8], number: u64) -> Result<(), Memory>
+fn put_numbered(out: &mut Vec<u8>, text: &[u8], number: u64) -> Result<(), Memory>
     ensures { IfOk result (λ _. out.new.items ≡ out.old.items ++ number_text text.now number) }
 {
-    let mut buffer = Buffer::new();
-    put(out, text)?;
-    put(out, buffer.format(number).as_bytes())
+    put_text(out, text)?;
+    put_number(out, number)
 }
 
 fn put_number_line(out: &mut Vec<u8>, text: &[u8], number: u64) -> Result<(), Memory>
     ensures { IfOk result (λ _. out.new.items ≡ out.old.items ++ number_line text.now number) }
 {
-    put_number(out, text, number)?;
-    put(out, b"\n")
-}
-
-fn put_key(out: &mut Vec<u8>, key: &Key) -> Result<(), Memory>
-    ensures text { IfOk result (λ _. out.new.items ≡ out.old.items ++ key_text key.now) }
-    ensures key { IsKey key.now }
-{
-    // The bytes of a key tell that they are one.
-    let _bytes = key.bytes();
-    put(out, key.text())
+    put_numbered(out, text, number)?;
+    put_text(out, b"\n")
 }
 
 fn put_number_and_key(out: &mut Vec<u8>, text: &[u8], number: u64, key: &Key) -> Result<(), Memory>
     ensures text { IfOk result (λ _. out.new.items ≡ out.old.items ++ number_key_text text.now number key.now) }
     ensures key { IfOk result (λ _. IsKey key.now) }
 {
-    put_number(out, text, number)?;
-    put(out, b" ")?;
+    put_numbered(out, text, number)?;
+    put_text(out, b" ")?;
     put_key(out, key)
 }
 
 fn put_head(out: &mut Vec<u8>, config: &Config) -> Result<(), Memory>
     ensures { IfOk result (λ _. out.new.items ≡ out.old.items ++ head_text config.now) }
 {
-    put(out, b"far 1\n")?;
+    put_text(out, b"far 1\n")?;
     put_number_line(out, b"clients ", u64::from(config.clients))?;
     put_number_line(out, b"servers ", u64::from(config.servers))?;
     put_number_line(out, b"slots ", u64::from(config.slots))?;
     put_number_line(out, b"hot ", u64::from(config.hot))
 }
 
-fn put_body(out: &mut Vec<u8>, body: &Body) -> Result<(), Memory>
+fn put_op_body(out: &mut Vec<u8>, body: &Body) -> Result<(), Memory>
     ensures text { IfOk result (λ _. out.new.items ≡ out.old.items ++ body_text body.now) }
     ensures short { IfOk result (λ _. length_of body.now ≤ BODY_LIMIT) }
 {
     if !body.is_present() {
         return Ok(());
     }
-    put(out, b" =")?;
-    put(out, body.text())
+    put_text(out, b" ")?;
+    put_body(out, body)
 }
 
 fn verb(op: Op) -> &'static [u8]
@@ -97,8 +81,8 @@ fn put_op(out: &mut Vec<u8>, line: &OpLine) -> Result<(), Memory>
     ensures whole { IfOk result (λ _. IsWholeOp line.now) }
 {
     put_number_and_key(out, verb(line.op), u64::from(line.client), &line.key)?;
-    put_body(out, &line.body)?;
-    put(out, b"\n")
+    put_op_body(out, &line.body)?;
+    put_text(out, b"\n")
 }
 
 fn kind_name(kind: PassKind) -> &'static [u8]
@@ -120,9 +104,9 @@ fn kind_name(kind: PassKind) -> &'static [u8]
 fn put_stop_at(out: &mut Vec<u8>, kind: PassKind, times: u64) -> Result<(), Memory>
     ensures { IfOk result (λ _. out.new.items ≡ out.old.items ++ order_text (StopAt kind times)) }
 {
-    put(out, b"stop ")?;
-    put(out, kind_name(kind))?;
-    put_number(out, b" ", times)
+    put_text(out, b"stop ")?;
+    put_text(out, kind_name(kind))?;
+    put_numbered(out, b" ", times)
 }
 
 fn put_order_words(out: &mut Vec<u8>, order: &Order) -> Result<(), Memory>
@@ -132,8 +116,8 @@ fn put_order_words(out: &mut Vec<u8>, order: &Order) -> Result<(), Memory>
     match order {
         Order::Admit { step, key } => put_number_and_key(out, b"admit ", *step, key),
         Order::Evict { step, key } => put_number_and_key(out, b"evict ", *step, key),
-        Order::Snap { step } => put_number(out, b"snap ", *step),
-        Order::Stop { step } => put_number(out, b"stop ", *step),
+        Order::Snap { step } => put_numbered(out, b"snap ", *step),
+        Order::Stop { step } => put_numbered(out, b"stop ", *step),
         Order::StopAt { kind, times } => put_stop_at(out, *kind, *times),
     }
 }
@@ -143,7 +127,7 @@ fn put_order(out: &mut Vec<u8>, order: &Order) -> Result<(), Memory>
     ensures whole { IfOk result (λ _. IsWholeOrder order.now) }
 {
     put_order_words(out, order)?;
-    put(out, b"\n")
+    put_text(out, b"\n")
 }
 
 fn put_ops(out: &mut Vec<u8>, ops: &[OpLine]) -> Result<(), Memory>
@@ -172,11 +156,11 @@ fn put_pick(out: &mut Vec<u8>, place: u32, pick: u64) -> Result<(), Memory>
     ensures { IfOk result (λ _. out.new.items ≡ out.old.items ++ pick_text place pick) }
 {
     if place == 0 {
-        put_number(out, b"picks ", pick)
+        put_numbered(out, b"picks ", pick)
     } else if place == PICKS_PER_LINE {
-        put_number(out, b"\npicks ", pick)
+        put_numbered(out, b"\npicks ", pick)
     } else {
-        put_number(out, b" ", pick)
+        put_numbered(out, b" ", pick)
     }
 }
 
@@ -203,7 +187,7 @@ fn put_picks(out: &mut Vec<u8>, picks: &[u64]) -> Result<(), Memory>
     if place == 0 {
         return Ok(());
     }
-    put(out, b"\n")
+    put_text(out, b"\n")
 }
 
 fn put_random(out: &mut Vec<u8>, random: Option<u64>) -> Result<(), Memory>

@@ -1,5 +1,5 @@
 use Rattle.std.proofs.Common.{◌≡◌, true, length}
-use Rattle.workload.specs.Words.{pieces}
+use Rattle.far_text.specs.Pieces.{pieces}
 use Rattle.workload.specs.Joining.{joined_from}
 use Rattle.workload.proofs.parser.join_picks.Given as goal
 

@@ -1,7 +1,7 @@
 use Rattle.std.proofs.Common.{rules}
-use Rattle.workload.specs.Words.{pieces}
+use Rattle.far_text.specs.Pieces.{pieces}
 use Rattle.workload.proofs.ByLine.{line_faulty}
 use Rattle.workload.proofs.parser.read_text.Goals as goal
 
 pub returns-in_err-take_line : goal.returns-in_err-take_line
-returns-in_err-take_line c = search (rules, line_faulty c.args.text.now c.loop-lines.lines.read c.next_line.new.self.read c.loop-lines.load (pieces 10 c.loop-lines.lines.rest.now) (pieces 10 c.next_line.new.self.rest.now) c.in_ok-line.line.now c.in_err-take_line.field-0.0 c.loop-lines.invariant.reads c.in_ok-line.ensures.line c.in_ok-line.ensures.count c.in_err-take_line.ensures)
+returns-in_err-take_line c = search (rules, line_faulty c.args.text.now c.loop-lines.lines.read c.next_line.new.lines.read c.loop-lines.load (pieces 10 c.loop-lines.lines.rest.now) (pieces 10 c.next_line.new.lines.rest.now) c.in_ok-line.line.now c.in_err-take_line.field-0.0 c.loop-lines.invariant.reads c.in_ok-line.ensures.line c.in_ok-line.ensures.count c.in_err-take_line.ensures)

@@ -1,5 +1,5 @@
 use Rattle.std.proofs.Common.{◌≡◌, ◌+◌, ◌≤◌, length}
-use Rattle.workload.specs.Words.{pieces}
+use Rattle.far_text.specs.Pieces.{pieces}
 use Rattle.workload.specs.Reading.{body_from, reading}
 use Rattle.workload.proofs.parser.read_text.Given as goal
 

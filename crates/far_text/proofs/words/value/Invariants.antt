@@ -1,6 +1,6 @@
 use Rattle.std.proofs.Common.{◌≡◌, drop}
-use Rattle.workload.specs.Number.{value_from}
-use Rattle.workload.proofs.words.value.Given as goal
+use Rattle.far_text.specs.Numbers.{value_from}
+use Rattle.far_text.proofs.words.value.Given as goal
 
 -- the number so far and the digits to come give the number of all
 abbrev pub invariant-loop-byte : goal.invariant-loop-byte

@@ -1,6 +1,6 @@
 use Rattle.std.proofs.Common.{◌≡◌, ◌+◌, ◌-◌, ◌≤◌, length, drop}
-use Rattle.workload.specs.Words.{until}
-use Rattle.workload.proofs.words.until.Given as goal
+use Rattle.far_text.specs.Pieces.{until}
+use Rattle.far_text.proofs.words.until.Given as goal
 
 -- those that were passed and those of the rest are all
 abbrev pub invariant-loop-at : goal.invariant-loop-at
