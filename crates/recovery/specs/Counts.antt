@@ -1,5 +1,5 @@
 -- What is counted of a round.
-use Rattle.std.specs.Prelude.{◌≡◌, ℕ, suc, ◌≤◌, ◌<◌, ◌^◌, max, Bool, List, [], ◌∷◌, length, Option, None, Some, if◌then◌else◌}
+use Rattle.std.specs.Prelude.{◌≡◌, ℕ, suc, ◌≤◌, max, List, [], ◌∷◌, Option, None, Some, if◌then◌else◌}
 use Rattle.far_model.specs.Rounds.{Telling, has_told, greatest_top}
 
 -- no more messages than the total asks for

@@ -31,6 +31,7 @@ impl Model for Round {
 }
 
 ghost use Rattle.std.specs.Prelude.{◌≡◌, ◌+◌, ◌-◌, ◌<◌, ◌^◌, length, true, false, not, ◌&&◌, nat_lt, nat_le, nat_eq, is_some, None, Some, IfOk, slice_index_or, slice_set, if◌then◌else◌};
+ghost use Rattle.std.specs.List.{list_all};
 ghost use Rattle.far_model.specs.Rounds as model;
 ghost use Rattle.recovery.specs.Waits.{waits_told, waits_stored, waits_top};
 
@@ -113,13 +114,39 @@ impl Round {
         }
     }
 
+    fn have_all_told(&self) -> bool
+        ensures { result ≡ list_all model.has_told self.now.told }
+    {
+        self.telling == 0
+    }
+
+    fn have_all_topped(&self) -> bool
+        ensures { result ≡ list_all is_some self.now.tops }
+    {
+        self.topping == 0
+    }
+
+    /// Whether every client has told its total and every store is answered.
+    fn is_stored(&self) -> bool
+        ensures { result ≡ (list_all model.has_told self.now.told && nat_eq self.now.stores 0) }
+    {
+        self.have_all_told() && self.stores == 0
+    }
+
+    /// Whether the servers were asked and every one has answered.
+    fn is_topped(&self) -> bool
+        ensures { result ≡ (self.now.asked && list_all is_some self.now.tops) }
+    {
+        self.asked && self.have_all_topped()
+    }
+
     /// True exactly once: where every client has told its total, every store is answered and the servers were not
     /// asked. They are asked then.
     pub fn asks_top(&mut self) -> bool
         ensures asks { result ≡ model.asks_tops self.old }
         ensures asked { self.new ≡ (if model.asks_tops self.old then record self.old { asked = true } else self.old) }
     {
-        if self.asked || self.telling > 0 || self.stores > 0 {
+        if self.asked || !self.is_stored() {
             return false;
         }
         self.asked = true;
@@ -130,7 +157,11 @@ impl Round {
     pub fn waits_top(&self, server: u32) -> bool
         ensures { result ≡ waits_top self.now server }
     {
-        self.asked && self.tops.get(server as usize).is_some_and(|top| top.is_none())
+        self.asked
+            && self
+                .tops
+                .get(server as usize)
+                .is_some_and(|top| top.is_none())
     }
 
     /// The greatest version number of the server.
@@ -148,7 +179,10 @@ impl Round {
     pub fn ready(&self) -> Option<u64>
         ensures { result ≡ model.ready_counter self.now }
     {
-        let is_ready = self.asked && self.topping == 0 && self.telling == 0 && self.stores == 0;
-        is_ready.then_some(self.top)
+        if self.is_topped() && self.is_stored() {
+            Some(self.top)
+        } else {
+            None
+        }
     }
 }
