@@ -1,0 +1,24 @@
+use Rattle.std.proofs.Common.{◌≡◌, ◌<◌, false, arith, ap, sym, ◌∙◌, length, subst}
+use Rattle.std.proofs.lemmas.List.{length-set}
+use Rattle.std.specs.Prelude.{is_some, slice_index_or, Option, None, Some}
+use Rattle.far_model.specs.Snapshots.{Job}
+use Rattle.snapshot_core.specs.Parts.{parts_there}
+use Rattle.snapshot_core.proofs.Counted.{there_set, there_within}
+use Rattle.snapshot_core.proofs.job.Job.same.Goals as goal
+
+pub overflow_add-self : goal.overflow_add-self
+overflow_add-self c =
+    let parts : c.self.inside.parts ≡ c.args.self.now.parts = ap (λ (j : Job). j.parts) c.self.view_is in
+    let within : c.args.slot < length c.self.inside.parts = omega (arith, c.requires.slot, ap length parts) in
+    let first : is_some (slice_index_or c.self.inside.parts c.args.slot None) ≡ false = ap (λ parts. is_some (slice_index_or parts c.args.slot None)) parts ∙ c.requires.first in
+    omega (arith, ap length c.put.ensures, length-set c.self.inside.parts c.args.slot (Some c.index.result.now), there_within c.put.new.self, ap parts_there c.put.ensures, there_set c.self.inside.parts c.args.slot c.index.result.now within first, c.self.invariant.come, c.self.invariant.few)
+
+pub invariant_of-self : goal.invariant_of-self
+invariant_of-self c =
+    let parts : c.self.inside.parts ≡ c.args.self.now.parts = ap (λ (j : Job). j.parts) c.self.view_is in
+    let within : c.args.slot < length c.self.inside.parts = omega (arith, c.requires.slot, ap length parts) in
+    let first : is_some (slice_index_or c.self.inside.parts c.args.slot None) ≡ false = ap (λ parts. is_some (slice_index_or parts c.args.slot None)) parts ∙ c.requires.first in
+    record {
+      come = omega (arith, ap parts_there c.put.ensures, there_set c.self.inside.parts c.args.slot c.index.result.now within first, c.self.invariant.come);
+      few = omega (arith, ap length c.put.ensures, length-set c.self.inside.parts c.args.slot (Some c.index.result.now), c.self.invariant.few);
+    }
