@@ -4,5 +4,4 @@ pub mod Places
 pub mod Report
 pub mod RoomyLog
 pub mod Rows
-pub mod Text
 pub mod Told

@@ -12,7 +12,7 @@ use Rattle.far_base.specs.declared.log.LogEntry.TheVariants.{Admitted, Evicted, 
 use Rattle.far_base.specs.declared.log.Placed.{Placed}
 use Rattle.far_model.specs.Log.{LogView, At, Answer, sending, emission, answering}
 use Rattle.far_model.specs.History.{IsHistory, IsFinalMap}
-use Rattle.far_history.specs.Text.{body_word, text_line}
+use Rattle.far_text.specs.Text.{body_word, text_line}
 
 abbrev pub kind_word : Op → List ℕ
 kind_word Get = codes "get"

@@ -6,7 +6,7 @@ use Rattle.far_history.specs.declared.told.Sending.{Sending}
 use Rattle.far_history.specs.declared.told.Reply.{Reply}
 use Rattle.far_history.specs.declared.told.Told.{Told}
 use Rattle.far_history.specs.Report.{placed_line, texts}
-use Rattle.far_history.specs.Text.{text_line}
+use Rattle.far_text.specs.Text.{text_line}
 use Rattle.far_history.specs.Told.{unheard}
 
 abbrev pub row_line : Placed → Option Sending → Option Reply → Option ℕ → List ℕ

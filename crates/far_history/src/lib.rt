@@ -6,7 +6,6 @@ mod log;
 mod marks;
 mod places;
 mod report;
-mod text;
 mod told;
 
 pub use far_base::{LogEntry, LogLine, Placed};

@@ -1,7 +1,7 @@
-ghost use Rattle.std.specs.Prelude.{◌≡◌, ◌++◌, [], ◌∷◌, IfOk, OnOk, slice_index_or, Some};
+ghost use Rattle.std.specs.Prelude.{◌≡◌, ◌++◌, [], ◌∷◌, IfOk, OnOk, codes, slice_index_or, Some};
 ghost use Rattle.std.specs.Fmt.{decimal};
 ghost use Rattle.far_base.specs.Key.{key_text};
-ghost use Rattle.far_history.specs.Text.{text_line, body_word};
+ghost use Rattle.far_text.specs.Text.{text_line, body_word};
 ghost use Rattle.far_history.specs.Told.{unheard};
 ghost use Rattle.far_history.specs.RoomyLog.{log_view};
 ghost use Rattle.far_history.specs.Report as words;
@@ -10,9 +10,9 @@ ghost use Rattle.far_history.specs.Rows.{row_text, history_by_rows};
 use crate::last_writes::last_writes;
 use crate::log::Log;
 use crate::places::places_in;
-use crate::text::{digits, put_line, put_numbers, word_of_body};
 use crate::told::{Reply, Sending, Told, gather};
-use far_base::{Key, LogEntry, LogLine, Memory, Op, Placed, Record};
+use far_base::{Body, Key, LogEntry, LogLine, Memory, Op, Placed, Record};
+use far_text::{Word, put_line, put_text};
 use std::alloc::Global;
 
 fn kind_word(op: &Op) -> &[u8]
@@ -31,9 +31,44 @@ fn source_word(near: &bool) -> &[u8]
     if *near { b"switch" } else { b"server" }
 }
 
+/// The words of the line of an operation that are no numbers.
+#[derive(Clone, Copy)]
+struct RowWords<'a> {
+    kind: &'a [u8],
+    key: &'a Key,
+    body: &'a Body,
+    source: &'a [u8],
+}
+
+/// Writes the line of an operation: its numbers, and its other words between them.
+fn put_words(
+    out: &mut Vec<u8>,
+    place: &Placed,
+    client: u32,
+    words: &RowWords,
+    sent_at: u64,
+    answered: u64,
+) -> Result<(), Memory>
+    ensures { OnOk result (out.new.items ≡ out.old.items ++ text_line (decimal place.now.op ∷ decimal client ∷ words.now.kind.now ∷ key_text words.now.key.now ∷ decimal place.now.num ∷ body_word words.now.body.now ∷ words.now.source.now ∷ decimal sent_at ∷ decimal answered ∷ [])) }
+{
+    put_line(
+        out,
+        &[
+            Word::Number(u64::from(place.op)),
+            Word::Number(u64::from(client)),
+            Word::Text(words.kind),
+            Word::Key(words.key),
+            Word::Number(place.num),
+            Word::Body(words.body),
+            Word::Text(words.source),
+            Word::Number(sent_at),
+            Word::Number(answered),
+        ],
+    )
+}
+
 /// Writes the line of an operation that was sent and answered.
 fn put_answered(
-    alloc: Global,
     out: &mut Vec<u8>,
     place: &Placed,
     sent: &Sending,
@@ -42,120 +77,143 @@ fn put_answered(
 ) -> Result<(), Memory>
     ensures { OnOk result (out.new.items ≡ out.old.items ++ words.placed_line place.now (Some (record { moment = sent.now.moment; what = sent.now.line })) (Some (record { moment = 0; what = record { num = reply.now.num; body = reply.now.body; near = reply.now.near } })) (Some (record { moment = answered; what = 0 }))) }
 {
-    let line = &sent.line;
-    let kind = line.op;
+    let line = sent.line;
     let near = reply.near;
-    let op = digits(alloc, u64::from(place.op))?;
-    let client = digits(alloc, u64::from(line.client))?;
-    let num = digits(alloc, place.num)?;
-    let body = if place.read { &reply.body } else { &line.body };
-    let body = word_of_body(alloc, body)?;
-    let sent_at = digits(alloc, sent.moment)?;
-    let answered_at = digits(alloc, answered)?;
-    put_line(
-        out,
-        op.as_bytes(),
-        &[
-            client.as_bytes(),
-            kind_word(&kind),
-            line.key.text(),
-            num.as_bytes(),
-            body.as_slice(),
-            source_word(&near),
-            sent_at.as_bytes(),
-            answered_at.as_bytes(),
-        ],
-    )
+    let body = if place.read { reply.body } else { line.body };
+    let words = RowWords {
+        kind: kind_word(&line.op),
+        key: &line.key,
+        body: &body,
+        source: source_word(&near),
+    };
+    put_words(out, place, line.client, &words, sent.moment, answered)
 }
 
 /// Writes the line of an entry of a slot.
-fn put_slot(
-    alloc: Global,
+fn put_slot<'a>(
     out: &mut Vec<u8>,
-    first: &[u8],
+    first: &'a [u8],
     moment: u64,
     slot: u32,
-    key: &Key,
+    key: &'a Key,
     number: u64,
 ) -> Result<(), Memory>
     ensures { OnOk result (out.new.items ≡ out.old.items ++ text_line (first.now ∷ decimal moment ∷ decimal slot ∷ key_text key.now ∷ decimal number ∷ [])) }
 {
-    let moment = digits(alloc, moment)?;
-    let slot = digits(alloc, u64::from(slot))?;
-    let number = digits(alloc, number)?;
     put_line(
         out,
-        first,
         &[
-            moment.as_bytes(),
-            slot.as_bytes(),
-            key.text(),
-            number.as_bytes(),
+            Word::Text(first),
+            Word::Number(moment),
+            Word::Number(u64::from(slot)),
+            Word::Key(key),
+            Word::Number(number),
         ],
     )
 }
 
+/// Writes a line of a word and one number.
+fn put_count(out: &mut Vec<u8>, first: &[u8], count: u64) -> Result<(), Memory>
+    ensures { OnOk result (out.new.items ≡ out.old.items ++ text_line (first.now ∷ decimal count ∷ [])) }
+{
+    put_line(out, &[Word::Text(first), Word::Number(count)])
+}
+
 /// Writes the line of a record.
-fn put_record(alloc: Global, out: &mut Vec<u8>, held: &Record) -> Result<(), Memory>
+fn put_record(out: &mut Vec<u8>, held: &Record) -> Result<(), Memory>
     ensures { OnOk result (out.new.items ≡ out.old.items ++ words.record_text held.now) }
 {
-    let num = digits(alloc, held.num)?;
-    let body = word_of_body(alloc, &held.body)?;
-    put_line(out, held.key.text(), &[num.as_bytes(), body.as_slice()])
+    put_line(
+        out,
+        &[
+            Word::Key(&held.key),
+            Word::Number(held.num),
+            Word::Body(&held.body),
+        ],
+    )
 }
 
 /// Writes the line of a record of a snapshot.
-fn put_snap_item(alloc: Global, out: &mut Vec<u8>, slot: u32, item: &Record) -> Result<(), Memory>
+fn put_snap_item(out: &mut Vec<u8>, slot: u32, item: &Record) -> Result<(), Memory>
     ensures { OnOk result (out.new.items ≡ out.old.items ++ text_line (decimal slot ∷ key_text item.now.key ∷ decimal item.now.num ∷ body_word item.now.body ∷ [])) }
 {
-    let slot = digits(alloc, u64::from(slot))?;
-    let num = digits(alloc, item.num)?;
-    let body = word_of_body(alloc, &item.body)?;
     put_line(
         out,
-        slot.as_bytes(),
-        &[item.key.text(), num.as_bytes(), body.as_slice()],
+        &[
+            Word::Number(u64::from(slot)),
+            Word::Key(&item.key),
+            Word::Number(item.num),
+            Word::Body(&item.body),
+        ],
+    )
+}
+
+/// Writes the line of a completed snapshot.
+fn put_snapshot(
+    out: &mut Vec<u8>,
+    moment: u64,
+    id: u32,
+    point: u64,
+    count: u32,
+) -> Result<(), Memory>
+    ensures { OnOk result (out.new.items ≡ out.old.items ++ text_line (codes "snapshot" ∷ decimal moment ∷ decimal id ∷ decimal point ∷ decimal count ∷ [])) }
+{
+    put_line(
+        out,
+        &[
+            Word::Text(b"snapshot"),
+            Word::Number(moment),
+            Word::Number(u64::from(id)),
+            Word::Number(point),
+            Word::Number(u64::from(count)),
+        ],
+    )
+}
+
+/// Writes the line of a recovery.
+fn put_recovery(out: &mut Vec<u8>, moment: u64, counter: u64, count: u64) -> Result<(), Memory>
+    ensures { OnOk result (out.new.items ≡ out.old.items ++ text_line (codes "recovered" ∷ decimal moment ∷ decimal counter ∷ decimal count ∷ [])) }
+{
+    put_line(
+        out,
+        &[
+            Word::Text(b"recovered"),
+            Word::Number(moment),
+            Word::Number(counter),
+            Word::Number(count),
+        ],
     )
 }
 
 /// Writes the line of a control entry, and nothing for a line of an operation.
-fn put_entry(alloc: Global, out: &mut Vec<u8>, line: &LogLine) -> Result<(), Memory>
+fn put_entry(out: &mut Vec<u8>, line: &LogLine) -> Result<(), Memory>
     ensures { OnOk result (out.new.items ≡ out.old.items ++ words.entry_text line.now.moment line.now.entry) }
 {
     let moment = line.moment;
     match line.entry {
         LogEntry::Admitted { slot, key, tag } => {
-            put_slot(alloc, out, b"admitted", moment, slot, &key, tag)
+            put_slot(out, b"admitted", moment, slot, &key, tag)
         }
         LogEntry::Evicted { slot, key, tries } => {
-            put_slot(alloc, out, b"evicted", moment, slot, &key, u64::from(tries))
+            put_slot(out, b"evicted", moment, slot, &key, u64::from(tries))
         }
-        LogEntry::Kept { slot, key, num } => {
-            put_slot(alloc, out, b"kept", moment, slot, &key, num)
-        }
+        LogEntry::Kept { slot, key, num } => put_slot(out, b"kept", moment, slot, &key, num),
         LogEntry::Snapped {
             id,
             point,
             count,
             ..
-        } => put_numbers(
-            alloc,
-            out,
-            b"snapshot",
-            &[moment, u64::from(id), point, u64::from(count)],
-        ),
-        LogEntry::SnapItem { slot, item } => put_snap_item(alloc, out, slot, &item),
-        LogEntry::Stopped => put_numbers(alloc, out, b"stopped", &[moment]),
-        LogEntry::Recovered { counter, count } => {
-            put_numbers(alloc, out, b"recovered", &[moment, counter, count])
-        }
-        LogEntry::RecItem { item } => put_record(alloc, out, &item),
+        } => put_snapshot(out, moment, id, point, count),
+        LogEntry::SnapItem { slot, item } => put_snap_item(out, slot, &item),
+        LogEntry::Stopped => put_count(out, b"stopped", moment),
+        LogEntry::Recovered { counter, count } => put_recovery(out, moment, counter, count),
+        LogEntry::RecItem { item } => put_record(out, &item),
         _ => Ok(()),
     }
 }
 
 /// Writes the line of a placed operation, if its row has all that the line tells.
-fn put_row(alloc: Global, out: &mut Vec<u8>, place: &Placed, told: &Told) -> Result<(), Memory>
+fn put_row(out: &mut Vec<u8>, place: &Placed, told: &Told) -> Result<(), Memory>
     ensures { OnOk result (out.new.items ≡ out.old.items ++ row_text place.now told.now) }
 {
     let Some(sent) = &told.sent else {
@@ -167,34 +225,24 @@ fn put_row(alloc: Global, out: &mut Vec<u8>, place: &Placed, told: &Told) -> Res
     let Some(answered) = told.answered else {
         return Ok(());
     };
-    put_answered(alloc, out, place, sent, reply, answered)
+    put_answered(out, place, sent, reply, answered)
 }
 
-fn put_placed(
-    alloc: Global,
-    out: &mut Vec<u8>,
-    table: &[Told],
-    place: &Placed,
-) -> Result<(), Memory>
+fn put_placed(out: &mut Vec<u8>, table: &[Told], place: &Placed) -> Result<(), Memory>
     ensures { OnOk result (out.new.items ≡ out.old.items ++ row_text place.now (slice_index_or table.now place.now.op unheard)) }
 {
     match table.get(place.op as usize) {
-        Some(told) => put_row(alloc, out, place, told),
+        Some(told) => put_row(out, place, told),
         None => Ok(()),
     }
 }
 
-fn put_history(
-    alloc: Global,
-    out: &mut Vec<u8>,
-    table: &[Told],
-    places: &[Placed],
-) -> Result<(), Memory>
+fn put_history(out: &mut Vec<u8>, table: &[Told], places: &[Placed]) -> Result<(), Memory>
     ensures { OnOk result (out.new.items ≡ out.old.items ++ history_by_rows table.now places.now) }
 {
-    put_numbers(alloc, out, b"history", &[places.len() as u64])?;
+    put_count(out, b"history", places.len() as u64)?;
     for place in places {
-        put_placed(alloc, out, table, place)?;
+        put_placed(out, table, place)?;
     }
     Ok(())
 }
@@ -214,23 +262,23 @@ fn is_control(line: &LogLine) -> bool
     }
 }
 
-fn put_control(alloc: Global, out: &mut Vec<u8>, lines: &[LogLine]) -> Result<(), Memory>
+fn put_control(out: &mut Vec<u8>, lines: &[LogLine]) -> Result<(), Memory>
     ensures { OnOk result (out.new.items ≡ out.old.items ++ words.control_text lines.now) }
 {
     let count = lines.iter().filter(|line| is_control(line)).count();
-    put_numbers(alloc, out, b"control", &[count as u64])?;
+    put_count(out, b"control", count as u64)?;
     for line in lines {
-        put_entry(alloc, out, line)?;
+        put_entry(out, line)?;
     }
     Ok(())
 }
 
-fn put_map(alloc: Global, out: &mut Vec<u8>, records: &[Record]) -> Result<(), Memory>
+fn put_map(out: &mut Vec<u8>, records: &[Record]) -> Result<(), Memory>
     ensures { OnOk result (out.new.items ≡ out.old.items ++ words.map_text records.now) }
 {
-    put_numbers(alloc, out, b"map", &[records.len() as u64])?;
+    put_count(out, b"map", records.len() as u64)?;
     for record in records {
-        put_record(alloc, out, record)?;
+        put_record(out, record)?;
     }
     Ok(())
 }
@@ -245,11 +293,11 @@ pub fn report_text(alloc: Global, log: &Log) -> Result<Vec<u8>, Memory>
     let places = places_in(alloc, &table, lines)?;
     let records = last_writes(alloc, &table, &places)?;
     let mut out = Vec::new(alloc);
-    put_line(&mut out, b"far 1 report", &[])?;
-    put_numbers(alloc, &mut out, b"steps", &[log.steps()])?;
-    put_history(alloc, &mut out, &table, &places)?;
-    put_control(alloc, &mut out, lines)?;
-    put_map(alloc, &mut out, &records)?;
-    put_line(&mut out, b"end", &[])?;
+    put_text(&mut out, b"far 1 report\n")?;
+    put_count(&mut out, b"steps", log.steps())?;
+    put_history(&mut out, &table, &places)?;
+    put_control(&mut out, lines)?;
+    put_map(&mut out, &records)?;
+    put_text(&mut out, b"end\n")?;
     Ok(out)
 }

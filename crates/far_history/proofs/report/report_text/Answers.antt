@@ -7,7 +7,7 @@ use Rattle.far_base.specs.declared.record.Record.{Record}
 use Rattle.far_model.specs.History.{IsHistory, IsFinalMap}
 use Rattle.far_history.specs.declared.told.Told.{Told}
 use Rattle.far_history.specs.Told.{unheard, IsRow}
-use Rattle.far_history.specs.Text.{text_line}
+use Rattle.far_text.specs.Text.{text_line}
 use Rattle.far_history.specs.Rows.{history_by_rows}
 use Rattle.far_history.specs.Report.{history_text, control_text, map_text}
 use Rattle.far_history.specs.LastWrites.{entries_after, record_of}
@@ -25,19 +25,19 @@ returns c =
     let h : IsHistory lines places = subst (λ (ls : List LogLine). IsHistory ls places) c.lines-lines.ensures c.in_ok-places.ensures in
     let m : records ≡ map record_of (entries_after table [] places) =
     c.in_ok-records.ensures ∙ (ap (λ (t : List Told). map record_of (entries_after t [] c.deref-3.result.now)) c.deref-2.ensures.value ∙ ap (λ (p : List Placed). map record_of (entries_after table [] p)) c.deref-3.ensures.value) in
-    let e1 : c.put_line.new.out.items ≡ c.new-out.result.items ++ text_line (codes "far 1 report" ∷ []) = c.in_ok-put_line.ensures in
-    let e2 : c.put_numbers.new.out.items ≡ c.put_line.new.out.items ++ text_line (codes "steps" ∷ decimal c.args.log.now.steps ∷ []) =
-    c.in_ok-put_numbers.ensures ∙ ap (λ (n : ℕ). c.put_line.new.out.items ++ text_line (codes "steps" ∷ decimal n ∷ [])) c.steps.ensures in
-    let e3 : c.put_history.new.out.items ≡ c.put_numbers.new.out.items ++ history_text lines places =
+    let e1 : c.put_text.new.out.items ≡ c.new-out.result.items ++ text_line (codes "far 1 report" ∷ []) = c.in_ok-put_text.ensures.text in
+    let e2 : c.put_count.new.out.items ≡ c.put_text.new.out.items ++ text_line (codes "steps" ∷ decimal c.args.log.now.steps ∷ []) =
+    c.in_ok-put_count.ensures ∙ ap (λ (n : ℕ). c.put_text.new.out.items ++ text_line (codes "steps" ∷ decimal n ∷ [])) c.steps.ensures in
+    let e3 : c.put_history.new.out.items ≡ c.put_count.new.out.items ++ history_text lines places =
     c.in_ok-put_history.ensures
-    ∙ (ap (λ (t : List Told). c.put_numbers.new.out.items ++ history_by_rows t c.deref-5.result.now) c.deref-4.ensures.value
-    ∙ (ap (λ (p : List Placed). c.put_numbers.new.out.items ++ history_by_rows table p) c.deref-5.ensures.value
-    ∙ ap (λ (x : List ℕ). c.put_numbers.new.out.items ++ x) (rows_tell lines table places rows))) in
+    ∙ (ap (λ (t : List Told). c.put_count.new.out.items ++ history_by_rows t c.deref-5.result.now) c.deref-4.ensures.value
+    ∙ (ap (λ (p : List Placed). c.put_count.new.out.items ++ history_by_rows table p) c.deref-5.ensures.value
+    ∙ ap (λ (x : List ℕ). c.put_count.new.out.items ++ x) (rows_tell lines table places rows))) in
     let e4 : c.put_control.new.out.items ≡ c.put_history.new.out.items ++ control_text lines =
     c.in_ok-put_control.ensures ∙ ap (λ (ls : List LogLine). c.put_history.new.out.items ++ control_text ls) c.lines-lines.ensures in
     let e5 : c.put_map.new.out.items ≡ c.put_control.new.out.items ++ map_text records =
     c.in_ok-put_map.ensures ∙ ap (λ (r : List Record). c.put_control.new.out.items ++ map_text r) c.deref-6.ensures.value in
-    let e6 : c.put_line-2.new.out.items ≡ c.put_map.new.out.items ++ text_line (codes "end" ∷ []) = c.in_ok-put_line-2.ensures in
+    let e6 : c.put_text-2.new.out.items ≡ c.put_map.new.out.items ++ text_line (codes "end" ∷ []) = c.in_ok-put_text-2.ensures.text in
     record {
       history = places;
       map = records;
