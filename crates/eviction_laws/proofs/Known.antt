@@ -45,9 +45,9 @@ hot_known plan t key v = by_test (OutIsKnown plan t) (grows_hot v.config.hot (ho
 
 -- what a slot held is known
 pub held_known : (plan : PlanView) (s : State) → ShownIsKnown plan s → (i : ℕ) → ViewIsKnown plan s (held_record (slot_at s.switch i))
-held_known plan s h i = by_test (ViewIsKnown plan s) (slot_at s.switch i).latest (Rattle.far_model.specs.View.record_of (slot_at s.switch i).key (slot_at s.switch i).num (slot_at s.switch i).body) None (go (slot_at s.switch i).key refl) tt
+held_known plan s h i = by_test (ViewIsKnown plan s) (slot_at s.switch i).latest (Rattle.far_model.specs.View.keyed_record (slot_at s.switch i).key (slot_at s.switch i).num (slot_at s.switch i).body) None (go (slot_at s.switch i).key refl) tt
   where
-    go : (o : Option (List ℕ)) → (slot_at s.switch i).key ≡ o → ViewIsKnown plan s (Rattle.far_model.specs.View.record_of o (slot_at s.switch i).num (slot_at s.switch i).body)
+    go : (o : Option (List ℕ)) → (slot_at s.switch i).key ≡ o → ViewIsKnown plan s (Rattle.far_model.specs.View.keyed_record o (slot_at s.switch i).num (slot_at s.switch i).body)
     go None e = tt
     go (Some key) e = h.slots i key e
 

@@ -169,7 +169,7 @@ module _ (plan : PlanView) (s : State) (h : Numbers plan s) (need : Needs plan s
     running = λ e. e;
     config = refl;
     counter = omega arith;
-    servers = length-set s.servers (server_of plan.config item.key) (Rattle.far_model.specs.Servers.kept (Rattle.far_model.specs.State.records_at s (server_of plan.config item.key)) item);
+    servers = length-set s.servers (server_of plan.config item.key) (Rattle.far_model.specs.Servers.stored (Rattle.far_model.specs.State.records_at s (server_of plan.config item.key)) item);
     more = more_at plan s h.keeps.some_server h.keeps.servers item t refl;
     written = written_at plan s h.keeps.some_server h.keeps.servers item t refl h.keeps.records (need.evictions.packets _ (among_at _ s.bag i at)).written;
     waits = λ c. refl;

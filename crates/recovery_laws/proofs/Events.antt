@@ -178,7 +178,7 @@ module _ (plan : PlanView) (kept : List Record) (s : State) (i : ℕ) (stops_s :
       let n : ℕ = server_of plan.config key in
       let asked : IsAskedWell plan s (WriteFwd caller op key num body) = needs.owed.asked _ (among_at _ s.bag i at) in
       moved to (WriteFwd caller op key num body) (Server n) travels.target (stops_step plan kept kept (Its x) s _ (remove s.bag i) _ stops_s
-      (calm_step plan kept (Its x) [] s _ (remove s.bag i) _ stops_s (given_calm plan kept s i x at stops_s needs r (WriteFwd caller op key num body) (write_reply caller op key (found (Rattle.far_model.specs.Servers.kept (records_at s n) (record_of key num body)) key)) refl
+      (calm_step plan kept (Its x) [] s _ (remove s.bag i) _ stops_s (given_calm plan kept s i x at stops_s needs r (WriteFwd caller op key num body) (write_reply caller op key (found (Rattle.far_model.specs.Servers.stored (records_at s n) (record_of key num body)) key)) refl
       (λ m g t h. subst (λ (w : Message). HasArrived plan s t w.packet) (sym g) (subst (λ q. num ≤ (look plan t q).num) (sym asked) h)) tt tt tt)) (switch_round x at travels.source _ refl))
   delivered from to (Store job item) at can =
       let travels = needs.routed.messages _ (among_at _ s.bag i at) in
