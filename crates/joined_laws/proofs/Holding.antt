@@ -18,7 +18,7 @@ use Rattle.far_model.specs.Controller.{ControllerState, ready, completes, job_tu
 use Rattle.far_model.specs.Events.{happens, is_enabled, keeping_of, restarts, controller_turn, handled, is_switch, all_listed, reply_at, delivers, can_deliver_some, reply_to}
 use Rattle.far_model.specs.Evictions.{Eviction, state_at}
 use Rattle.far_model.specs.Flights.{IsRouted, OneFlightPerOperation, subject}
-use Rattle.far_model.specs.History.{Held as HeldIn}
+use Rattle.far_base.specs.declared.record.Versioned.{Versioned}
 use Rattle.far_model.specs.Invariants.{IsWritten, AdmissionIs, look, slot_if}
 use Rattle.far_model.specs.KeyedRecords.{found}
 use Rattle.far_model.specs.Kept.{IsAtServer, IsInSlot, IsInSnapshot, Covers}
@@ -212,7 +212,7 @@ module _ (plan : PlanView) (past : Past) (s : State) (valid : IsPlan plan) (h : 
       let is = h.stops.servers n in
       let here : found (records_at s n) r.key ≡ look plan s r.key = ap (λ m. found (records_at s m) r.key) (sym (is.own r a)) in
       let same = sym here ∙ found_member r (records_at s n) is.apart a in
-      subst (λ (w : HeldIn). IsWritten plan s.log s.steps r.key w.num w.body) same (h.keeps.records r.key)
+      subst (λ (w : Versioned). IsWritten plan s.log s.steps r.key w.num w.body) same (h.keeps.records r.key)
 
   -- ---- what packets of operations rely on
 

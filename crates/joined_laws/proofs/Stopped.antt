@@ -203,7 +203,7 @@ module _ (plan : PlanView) (s : State) (k : Keeps plan s) (v : EvictionsAreSound
   delivered from to (Stored job) at can = at_controller to (Stored job) (routed.messages _ (among_at _ s.bag i at)).target
   delivered from to (Told round caller total item) at can = at_controller to (Told round caller total item) (routed.messages _ (among_at _ s.bag i at)).target
   delivered from to (TopIs round server top) at can = at_controller to (TopIs round server top) (routed.messages _ (among_at _ s.bag i at)).target
-  delivered from to (Store job item) at can = subst (λ w. Keeps plan (after w (Store job item))) (sym (routed.messages _ (among_at _ s.bag i at)).target) stored
+  delivered from to (Store job item) at can = subst (λ w. Keeps plan (after w (Store job item))) (sym (routed.messages _ (among_at _ s.bag i at)).target) stays
     where
       t : State
       t = server_turn s (server_of plan.config item.key) (remove s.bag i) (Store job item) (Some (Stored job))
@@ -211,8 +211,8 @@ module _ (plan : PlanView) (s : State) (k : Keeps plan s) (v : EvictionsAreSound
       reply : Message
       reply = record { from = Server (server_of plan.config item.key); to = Controller; packet = Stored job }
 
-      stored : Keeps plan t
-      stored = rules_keep plan [] s t k (record {
+      stays : Keeps plan t
+      stays = rules_keep plan [] s t k (record {
         log = refl;
         notes_are = tt;
         steps = refl;
