@@ -19,8 +19,8 @@ use Rattle.far_base.specs.declared.plan.OpLine.{OpLine}
 use Rattle.far_base.specs.declared.record.Record.{Record}
 use Rattle.far_model.specs.Clients.{ClientState, line_of, request, client_takes, preserves, closed, answered_record}
 use Rattle.far_model.specs.Events.{handled, reply_at, sends, next_sent, switch_turn, server_turn, client_turn}
-use Rattle.far_model.specs.Flights.{subject, is_operation, IsRouted}
-use Rattle.far_model.specs.Invariants.{look}
+use Rattle.far_invariants.specs.Flights.{subject, is_operation, IsRouted}
+use Rattle.far_invariants.specs.Invariants.{look}
 use Rattle.far_model.specs.KeyedRecords.{found, put_record}
 use Rattle.far_model.specs.Log.{is_read, same_key}
 use Rattle.far_model.specs.Members.{Among}

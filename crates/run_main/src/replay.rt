@@ -3,7 +3,7 @@ ghost use Rattle.far_history.specs.Report.{IsReport};
 ghost use Rattle.far_model.specs.Answered.{AllAnswered};
 ghost use Rattle.far_model.specs.Runs as runs;
 ghost use Rattle.far_model.specs.State.{opening};
-ghost use Rattle.far_model.specs.Uncached.{IsUncachedPlan};
+ghost use Rattle.far_invariants.specs.Uncached.{IsUncachedPlan};
 ghost use Rattle.far_outside.specs.Faults.{Rose};
 ghost use Rattle.far_world.specs.Linearizable.{HasOneLegalHistory};
 ghost use Rattle.far_world.specs.WorldView.{IsWorld, Tells};

@@ -1,6 +1,6 @@
 use Rattle.std.proofs.Common.{◌≡◌, ◌+◌, ◌<◌, ◌≤◌, ◌^◌}
 use Rattle.far_model.specs.Runs.{listed_pick}
-use Rattle.far_model.specs.Uncached.{IsUncachedPlan}
+use Rattle.far_invariants.specs.Uncached.{IsUncachedPlan}
 use Rattle.far_model.specs.Work.{work_left}
 use Rattle.far_world.specs.WorldView.{Tells}
 use Rattle.run_main.proofs.Picks.{Continues}
