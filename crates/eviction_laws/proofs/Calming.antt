@@ -19,7 +19,7 @@ use Rattle.far_base.specs.declared.slot_state.SlotState.TheVariants.{Free, Admit
 use Rattle.far_model.specs.Controller.{ControllerState, wanted, snapshot_begun, part_came, job_turn, completes, admits_want, acknowledged, acked_state, with_state, same_came, same_part}
 use Rattle.far_model.specs.Events.{controller_turn, switch_turn}
 use Rattle.far_model.specs.Evictions.{state_at, is_free, first_place, is_admitting, key_in}
-use Rattle.far_model.specs.Invariants.{look}
+use Rattle.far_invariants.specs.Invariants.{look}
 use Rattle.eviction_laws.specs.Needs.{PacketNeeds, Needs}
 use Rattle.far_model.specs.Members.{Among}
 use Rattle.far_model.specs.Parties.{Turn, idle, messages_from}

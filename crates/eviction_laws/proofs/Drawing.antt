@@ -18,12 +18,12 @@ use Rattle.far_base.specs.declared.slot_state.SlotState.TheVariants.{Free, Admit
 use Rattle.far_model.specs.Clients.{ClientState, request, client_takes, tells, tells_each}
 use Rattle.far_model.specs.Controller.{ControllerState, controller_takes, with_state, to_clients, to_servers, stores_of, store_outs, snapshot_stores, start_recovery, round_turn, told_round, wanted, first_want_dropped, evicts, acknowledged, acked_state, evicts_on, peek_answered, removal_answered, store_answered, round_stored, start_snapshot, snapshot_begun, part_came, job_turn, completes, client_told, top_told, same_came, same_part, is_last_present}
 use Rattle.far_model.specs.Evictions.{Eviction, Next, Send, Store as StoreNext, Done, Kept, TRIES, state_at, key_in, tag_in, is_admitting, begins_eviction, shown_item, after_peek, after_store, after_removal, waits_for, waits_job, storing, removing}
-use Rattle.far_model.specs.Invariants.{IsGiven}
+use Rattle.far_invariants.specs.Invariants.{IsGiven}
 use Rattle.far_model.specs.Log.{is_read}
 use Rattle.far_model.specs.Members.{Among, Each, Pairs}
 use Rattle.far_model.specs.Parties.{Turn, idle, to_party, messages_from}
 use Rattle.far_model.specs.Pass.{Passed, pass, sent_to, passed_out, outs_of, read_passes, write_passes, reply_passes, numbered, told_hot, grows_hot, hot_cell, changes, part_left, part_of, with_slot, with_taken, absorbing, raised, takes_reply, admits, peeks, removes, removed_answer, may_go, is_under, dropped, starts_snapshot, reads_part, is_slot_there, is_as_before}
-use Rattle.far_model.specs.Past.{DrawnTag}
+use Rattle.far_invariants.specs.Past.{DrawnTag}
 use Rattle.far_model.specs.Rounds.{Round, asks_tops, has_told, telling_at}
 use Rattle.far_model.specs.Snapshots.{Job, has_begun, has_part, is_whole, completed, part_reads, with_same}
 use Rattle.far_model.specs.State.{State}

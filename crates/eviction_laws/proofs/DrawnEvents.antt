@@ -20,11 +20,11 @@ use Rattle.far_model.specs.Clients.{client_takes, request, line_of}
 use Rattle.far_model.specs.Controller.{ControllerState, controller_takes, tick, tick_wants, tick_want, tick_free, tick_room, makes_room, wanted, admits_want, evict_held, ready}
 use Rattle.far_model.specs.Events.{happens, keeping_of, is_enabled, handled, reply_at, reply_message, delivers, can_deliver_some, reply_to, all_listed, ticks, sends, next_sent, does_order, is_order_due, is_order_enabled, is_possible, controller_turn}
 use Rattle.far_model.specs.Evictions.{state_at, is_free, has_key, holds_key, first_place, victim, hand_after}
-use Rattle.far_model.specs.Invariants.{IsGiven}
+use Rattle.far_invariants.specs.Invariants.{IsGiven}
 use Rattle.far_model.specs.Members.{Among}
 use Rattle.far_model.specs.Parties.{Turn, idle, to_party}
 use Rattle.far_model.specs.Pass.{pass, passed_out}
-use Rattle.far_model.specs.Past.{DrawnTag, Past, drawn_with, drawn_in, remembers}
+use Rattle.far_invariants.specs.Past.{DrawnTag, Past, drawn_with, drawn_in, remembers}
 use Rattle.far_model.specs.Rounds.{Round}
 use Rattle.far_model.specs.Servers.{server_reply}
 use Rattle.far_model.specs.State.{State, client_at, records_at}

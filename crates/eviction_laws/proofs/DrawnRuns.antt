@@ -5,8 +5,8 @@ use Rattle.far_base.specs.PlanView.{PlanView}
 use Rattle.far_base.specs.declared.event.Event.{Event}
 use Rattle.far_base.specs.declared.slot_state.SlotState.TheVariants.{Free}
 use Rattle.far_model.specs.Events.{happens, keeping_of, is_enabled}
-use Rattle.far_model.specs.Invariants.{IsGiven}
-use Rattle.far_model.specs.Past.{Past, remembers, past_from, past_of, no_past}
+use Rattle.far_invariants.specs.Invariants.{IsGiven}
+use Rattle.far_invariants.specs.Past.{Past, remembers, past_from, past_of, no_past}
 use Rattle.far_model.specs.Runs.{run, IsRun}
 use Rattle.far_model.specs.State.{State, opening}
 use Rattle.flight_laws.proofs.Handling.{IsInFlight, flight_opens, flight_step}

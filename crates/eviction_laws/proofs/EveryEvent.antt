@@ -16,11 +16,11 @@ use Rattle.far_base.specs.declared.plan.Order.TheVariants.{Admit as AdmitOrder, 
 use Rattle.far_base.specs.declared.record.Record.{Record}
 use Rattle.far_model.specs.Controller.{ControllerState, tick, tick_wants, tick_want, tick_free, tick_room, makes_room, wanted, evict_key, evict_held, ready, client_told, top_told}
 use Rattle.far_model.specs.View.{server_of}
-use Rattle.far_model.specs.Replies.{RepliesAt, RepliesToMessage, KeepersAnswer}
+use Rattle.far_model.specs.Replies.{RepliesAt, RepliesToMessage, AnswersInKind}
 use Rattle.flight_laws.proofs.WithoutCache.{answers_in_kind}
 use Rattle.far_model.specs.Events.{happens_with, server_turn, happens, keeping_of, is_enabled, handled, delivers, can_deliver_some, can_deliver, ticks, does_order, is_order_due, is_order_enabled, is_possible, controller_turn, can_recover}
 use Rattle.far_model.specs.Evictions.{is_free, has_key, holds_key, first_place, victim, hand_after}
-use Rattle.far_model.specs.Flights.{subject, is_operation}
+use Rattle.far_invariants.specs.Flights.{subject, is_operation}
 use Rattle.far_model.specs.Parties.{Turn, idle}
 use Rattle.far_model.specs.Rounds.{Round}
 use Rattle.far_model.specs.State.{State}
@@ -210,7 +210,7 @@ module _ (plan : PlanView) {c : Content} (s : State) (need : Needs plan c s) (ro
   restarted_sound k (Some counter) is can = restart_sound plan s v (λ none. let off : ready s.controller ≡ None = ap Rattle.far_model.specs.Controller.ready_in none in let clash = sym is ∙ off in cc) k counter
 
 -- every event keeps what holds of evictions, whatever keepers answer
-pub event_sound_with : (plan : PlanView) {c : Content} (k : Keeping) (s : State) (e : Event) → Needs plan c s → RoundNeeds plan c s → EvictionsAre plan c s → KeepersAnswer s e k → is_enabled plan s e ≡ true → EvictionsAre plan c (happens_with plan k s e)
+pub event_sound_with : (plan : PlanView) {c : Content} (k : Keeping) (s : State) (e : Event) → Needs plan c s → RoundNeeds plan c s → EvictionsAre plan c s → AnswersInKind s e k → is_enabled plan s e ≡ true → EvictionsAre plan c (happens_with plan k s e)
 event_sound_with plan k s (Send c) need round v answers can = send_leaves plan s v c
 event_sound_with plan k s (Deliver i) need round v answers can = delivery_sound plan s need round v i k (slice_get s.bag i) refl can answers
 event_sound_with plan k s Tick need round v answers can = tick_sound plan s need round v (tick s.controller) refl can
@@ -236,5 +236,5 @@ no_needs plan s = record { last = λ r a. tt; told = λ m a. packet m.packet }
     packet (Told number caller total i) = item i
     packet _ = tt
 
-pub event_flies : (plan : PlanView) (k : Keeping) (s : State) (e : Event) → Needs plan anything s → EvictionsAre plan anything s → KeepersAnswer s e k → is_enabled plan s e ≡ true → EvictionsAre plan anything (happens_with plan k s e)
+pub event_flies : (plan : PlanView) (k : Keeping) (s : State) (e : Event) → Needs plan anything s → EvictionsAre plan anything s → AnswersInKind s e k → is_enabled plan s e ≡ true → EvictionsAre plan anything (happens_with plan k s e)
 event_flies plan k s e need v answers can = event_sound_with plan k s e need (no_needs plan s) v answers can

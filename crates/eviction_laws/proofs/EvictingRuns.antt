@@ -20,7 +20,7 @@ use Rattle.far_base.specs.declared.slot_state.SlotState.TheVariants.{Free, Evict
 use Rattle.far_model.specs.Controller.{ControllerState, tick, tick_wants, tick_want, tick_free, tick_room, makes_room, wanted, evict_key, evict_held, ready, client_told, top_told}
 use Rattle.far_model.specs.Events.{happens, keeping_of, is_enabled, handled, reply_at, delivers, can_deliver_some, can_deliver, reply_to, all_listed, ticks, does_order, is_order_due, is_order_enabled, is_possible, controller_turn}
 use Rattle.far_model.specs.Evictions.{Eviction, is_free, has_key, holds_key, first_place, victim, hand_after}
-use Rattle.far_model.specs.Flights.{subject, is_operation, OneFlightPerOperation, IsRouted}
+use Rattle.far_invariants.specs.Flights.{subject, is_operation, OneFlightPerOperation, IsRouted}
 use Rattle.far_model.specs.Parties.{Turn, idle}
 use Rattle.far_model.specs.Rounds.{Round}
 use Rattle.far_model.specs.Runs.{run, IsRun}

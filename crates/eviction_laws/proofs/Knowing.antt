@@ -18,7 +18,7 @@ use Rattle.far_model.specs.Clients.{ClientState, line_of}
 use Rattle.far_model.specs.Controller.{ControllerState}
 use Rattle.far_model.specs.Events.{client_turn, controller_turn, server_turn, reply_message}
 use Rattle.far_model.specs.Evictions.{Eviction}
-use Rattle.far_model.specs.Invariants.{look}
+use Rattle.far_invariants.specs.Invariants.{look}
 use Rattle.far_model.specs.Members.{Among, Each}
 use Rattle.far_model.specs.Parties.{Turn, messages_from}
 use Rattle.far_model.specs.Pass.{Passed, passed_out, outs_of, is_as_before, part_packet}

@@ -19,8 +19,8 @@ use Rattle.far_base.specs.declared.plan.OpLine.{OpLine}
 use Rattle.far_base.specs.declared.record.Record.{Record}
 use Rattle.far_model.specs.Clients.{ClientState, line_of, request, client_takes, preserves, closed, answered_record}
 use Rattle.far_model.specs.Events.{handled, reply_at, sends, next_sent, switch_turn, server_turn, client_turn}
-use Rattle.far_model.specs.Flights.{subject, is_operation, IsRouted}
-use Rattle.far_model.specs.Invariants.{look}
+use Rattle.far_invariants.specs.Flights.{subject, is_operation, IsRouted}
+use Rattle.far_invariants.specs.Invariants.{look}
 use Rattle.far_model.specs.KeyedRecords.{found, put_record}
 use Rattle.far_model.specs.Log.{is_read, same_key}
 use Rattle.far_model.specs.Members.{Among}
@@ -45,9 +45,9 @@ hot_known plan t key v = by_test (OutIsKnown plan t) (grows_hot v.config.hot (ho
 
 -- what a slot held is known
 pub held_known : (plan : PlanView) (s : State) → ShownIsKnown plan s → (i : ℕ) → ViewIsKnown plan s (held_record (slot_at s.switch i))
-held_known plan s h i = by_test (ViewIsKnown plan s) (slot_at s.switch i).latest (Rattle.far_model.specs.View.record_of (slot_at s.switch i).key (slot_at s.switch i).num (slot_at s.switch i).body) None (go (slot_at s.switch i).key refl) tt
+held_known plan s h i = by_test (ViewIsKnown plan s) (slot_at s.switch i).latest (Rattle.far_model.specs.View.keyed_record (slot_at s.switch i).key (slot_at s.switch i).num (slot_at s.switch i).body) None (go (slot_at s.switch i).key refl) tt
   where
-    go : (o : Option (List ℕ)) → (slot_at s.switch i).key ≡ o → ViewIsKnown plan s (Rattle.far_model.specs.View.record_of o (slot_at s.switch i).num (slot_at s.switch i).body)
+    go : (o : Option (List ℕ)) → (slot_at s.switch i).key ≡ o → ViewIsKnown plan s (Rattle.far_model.specs.View.keyed_record o (slot_at s.switch i).num (slot_at s.switch i).body)
     go None e = tt
     go (Some key) e = h.slots i key e
 

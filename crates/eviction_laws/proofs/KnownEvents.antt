@@ -15,9 +15,9 @@ use Rattle.far_base.specs.declared.plan.Order.{Order}
 use Rattle.far_base.specs.declared.plan.Order.TheVariants.{Admit as AdmitOrder, Evict as EvictOrder, Snap as SnapOrder, Stop as StopOrder, StopAt as StopAtOrder}
 use Rattle.far_base.specs.declared.record.Record.{Record}
 use Rattle.far_model.specs.Controller.{ControllerState, tick, tick_wants, tick_want, tick_free, tick_room, makes_room, evict_held, ready}
-use Rattle.far_model.specs.Events.{happens, keeping_of, is_enabled, handled, reply_at, delivers, can_deliver_some, can_deliver, reply_to, all_listed, ticks, does_order, is_order_due, is_order_enabled, is_possible, is_none_left, choices, controller_turn, can_recover}
+use Rattle.far_model.specs.Events.{happens, keeping_of, is_enabled, handled, reply_at, delivers, can_deliver_some, can_deliver, reply_to, all_listed, ticks, does_order, is_order_due, is_order_enabled, is_possible, choices, controller_turn, can_recover}
 use Rattle.far_model.specs.Evictions.{Eviction, is_free, has_key, holds_key, first_place, victim, hand_after}
-use Rattle.far_model.specs.Flights.{subject, is_operation}
+use Rattle.far_invariants.specs.Flights.{subject, is_operation}
 use Rattle.far_model.specs.Parties.{Turn}
 use Rattle.far_model.specs.State.{State, opening}
 use Rattle.far_model.proofs.Members.{among_at}
@@ -25,7 +25,7 @@ use Rattle.flight_laws.proofs.Lists.{get_or-replicate_default}
 use Rattle.run_laws.proofs.Slots.{both}
 use Rattle.eviction_laws.specs.Evicting.{written_in}
 use Rattle.eviction_laws.specs.Evicting.{EvictionsAreSound}
-use Rattle.far_model.specs.Members.{Among}
+use Rattle.far_model.specs.Members.{Among, is_empty}
 use Rattle.far_model.specs.Pass.{is_slot_there, is_under, peeks, removes, dropped}
 use Rattle.far_model.specs.Events.{switch_turn}
 use Rattle.far_model.specs.Clients.{ClientState}

@@ -16,8 +16,8 @@ use Rattle.far_model.specs.Clients.{ClientState, line_of, request, client_takes}
 use Rattle.far_model.specs.Replies.{RepliesAt}
 use Rattle.far_model.specs.Events.{Keeping, handled, sends, next_sent, switch_turn, server_turn, client_turn}
 use Rattle.far_model.specs.Evictions.{state_at}
-use Rattle.far_model.specs.Flights.{subject, is_operation, IsRouted}
-use Rattle.far_model.specs.Invariants.{look}
+use Rattle.far_invariants.specs.Flights.{subject, is_operation, IsRouted}
+use Rattle.far_invariants.specs.Invariants.{look}
 use Rattle.far_model.specs.KeyedRecords.{found}
 use Rattle.far_model.specs.Log.{is_read}
 use Rattle.far_model.specs.Members.{Among}

@@ -11,7 +11,7 @@ use Rattle.far_base.specs.declared.plan.Config.{Config}
 use Rattle.far_base.specs.declared.slot_state.SlotState.TheVariants.{Evicting}
 use Rattle.far_model.specs.Events.{switch_turn}
 use Rattle.far_model.specs.Evictions.{Eviction, state_at}
-use Rattle.far_model.specs.Invariants.{entry, slot_if, IsSlotOf, IsGiven}
+use Rattle.far_invariants.specs.Invariants.{entry, slot_if, IsSlotOf, IsGiven}
 use Rattle.far_model.specs.Members.{Among}
 use Rattle.far_model.specs.Pass.{Passed, peeks, dropped, is_slot_there, is_under, sent_to}
 use Rattle.far_model.specs.Passes.{with_pass}

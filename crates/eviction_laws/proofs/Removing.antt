@@ -12,7 +12,7 @@ use Rattle.far_base.specs.declared.party.Party.TheVariants.{Switch, Controller}
 use Rattle.far_base.specs.declared.slot_state.SlotState.TheVariants.{Evicting}
 use Rattle.far_model.specs.Events.{switch_turn}
 use Rattle.far_model.specs.Evictions.{Eviction, state_at}
-use Rattle.far_model.specs.Invariants.{look, entry, slot_if, reach, reach_by, FitsState, IsSlotOf, admission_count}
+use Rattle.far_invariants.specs.Invariants.{look, entry, slot_if, reach, reach_by, FitsState, IsSlotOf, admission_count}
 use Rattle.far_model.specs.Members.{Among}
 use Rattle.far_model.specs.Pass.{removes, removed_answer, may_go, changes, dropped, is_slot_there, is_under, sent_to, with_slot, with_taken, part_of, is_as_before, part_packet}
 use Rattle.far_model.specs.Passes.{with_pass}

@@ -5,7 +5,7 @@ use Rattle.far_base.specs.PlanView.{PlanView}
 use Rattle.far_base.specs.declared.log.LogEntry.{LogEntry}
 use Rattle.far_base.specs.declared.packet.Message.{Message}
 use Rattle.far_model.specs.Clients.{line_of}
-use Rattle.far_model.specs.Invariants.{look, entry, reach, reach_by, IsWritten}
+use Rattle.far_invariants.specs.Invariants.{look, entry, reach, reach_by, IsWritten}
 use Rattle.far_model.specs.Members.{Among, Each}
 use Rattle.far_model.specs.State.{State, client_at, now, noted}
 use Rattle.far_model.specs.View.{SlotView}

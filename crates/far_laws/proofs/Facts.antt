@@ -81,7 +81,7 @@ module _ (log : List LogLine) (coherent : IsCoherent log) where
         source = λ p. let s = f.source p in (s.0, written e.moment f.sent.line.key e.what.num s.0 s.1, s.2);
         unwritten = f.unwritten;
         read = f.read;
-        write = λ w. let o = f.write w in record { own = record { moment = o.numbered_at; what = o.own }; first = numbering_is log coherent.order op o.numbered_at o.own o.numbered; within = o.within };
+        write = λ w. let o = f.write w in record { own = record { moment = o.is.numbered_at; what = o.own }; first = numbering_is log coherent.order op o.is.numbered_at o.own o.is.numbered; within = o.within };
       }
 
   -- an operation that was answered has an answer of the switch

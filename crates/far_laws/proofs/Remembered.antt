@@ -5,7 +5,7 @@ use Rattle.far_base.specs.declared.event.Event.{Event}
 use Rattle.far_model.proofs.Members.{among_append}
 use Rattle.far_model.specs.Events.{happens}
 use Rattle.far_model.specs.Members.{Among}
-use Rattle.far_model.specs.Past.{Past, past_from, remembers, no_past, past_of}
+use Rattle.far_invariants.specs.Past.{Past, past_from, remembers, no_past, past_of}
 use Rattle.far_model.specs.State.{State, opening}
 use Rattle.far_laws.specs.Remembered.{WasMadeBy}
 

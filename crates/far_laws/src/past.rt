@@ -6,7 +6,7 @@ ghost use Rattle.far_base.specs.declared.event.Event.{Event};
 ghost use Rattle.far_base.specs.declared.kept.KeptItem.{KeptItem};
 ghost use Rattle.far_laws.specs.Remembered.{WasMadeBy};
 ghost use Rattle.far_model.specs.Members.{Among};
-ghost use Rattle.far_model.specs.Past.{DrawnTag, SnapshotStart, new_drawn, new_recoveries, new_starts, past_of};
+ghost use Rattle.far_invariants.specs.Past.{DrawnTag, SnapshotStart, new_drawn, new_recoveries, new_starts, past_of};
 ghost use Rattle.far_model.specs.State.{opening};
 
 /// Each start of a snapshot that is remembered is the slots' records and the counter in the state in which

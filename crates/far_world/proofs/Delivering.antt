@@ -20,10 +20,10 @@ use Rattle.far_model.specs.Clients.{ClientState, client_takes, closed}
 use Rattle.far_model.specs.Events.{happens, keeping_of, next_sent, reply_goes_to}
 use Rattle.far_model.specs.Parties.{messages_from}
 use Rattle.far_model.specs.Pass.{pass, passed_out, pass_notes}
-use Rattle.far_model.specs.Replies.{IsReplyTo, KeepersAnswer}
+use Rattle.far_model.specs.Replies.{IsReplyTo, AnswersInKind}
 use Rattle.far_model.specs.Servers.{server_keeps, server_reply}
 use Rattle.far_model.specs.State.{State, client_at, line_at}
-use Rattle.far_model.specs.Uncached.{GoesTo}
+use Rattle.far_invariants.specs.Uncached.{GoesTo}
 use Rattle.far_model.specs.View.{opening_view, server_of}
 use Rattle.far_outside.specs.Keeping.{records_of}
 use Rattle.server_keeper.specs.Step.{IsForServer, after_packet, number_in, number_of_reply}
@@ -101,7 +101,7 @@ client_turn_is config ops c client (WriteRep caller op key num body) h = absurd 
 client_turn_is config ops c client _ h = absurd h
 
 -- what happens by the rule of a server is what follows
-pub by_rule : (plan : PlanView) (s : State) (e : Event) (t : State) → KeepersAnswer s e (keeping_of s e) → length t.servers ≡ length s.servers → t ≡ happens plan s e → IsAfter plan s e t
+pub by_rule : (plan : PlanView) (s : State) (e : Event) (t : State) → AnswersInKind s e (keeping_of s e) → length t.servers ≡ length s.servers → t ≡ happens plan s e → IsAfter plan s e t
 by_rule plan s e t answers count h = record { keeping = keeping_of s e; answers = answers; after = ap (λ (z : State). record z { servers = t.servers }) h; servers = count }
 
 -- a keeper goes on telling its records, or goes on telling none

@@ -21,7 +21,7 @@ use Rattle.far_model.specs.Events.{Keeping, delivers, handled, happens_with, nex
 use Rattle.far_model.specs.Members.{Among}
 use Rattle.far_model.specs.Pass.{Passed, numbered, pass, pass_notes, read_passes, reply_passes, sent_to, write_passes}
 use Rattle.far_model.specs.State.{State, client_at, line_at, now}
-use Rattle.far_model.specs.Uncached.{GoesTo, IsUncached, is_send_or_deliver}
+use Rattle.far_invariants.specs.Uncached.{GoesTo, IsUncached, is_send_or_deliver}
 use Rattle.far_model.specs.View.{SwitchView, entry_place, opening_view}
 use Rattle.far_world.specs.Drawn.{draws, drawn_by, drawn_in}
 use Rattle.flight_laws.proofs.WithoutCache.{no_entry}

@@ -7,7 +7,7 @@ use Rattle.far_base.specs.declared.log.Placed.{Placed}
 use Rattle.far_model.specs.Answered.{AllAnswered}
 use Rattle.far_model.specs.Coherent.{IsCoherent}
 use Rattle.far_model.specs.History.{IsHistory, IsLinearizable}
-use Rattle.far_model.specs.Invariants.{AnswersAreCurrent}
+use Rattle.far_invariants.specs.Invariants.{AnswersAreCurrent}
 use Rattle.far_model.specs.Runs.{is_finished, run}
 use Rattle.far_model.specs.State.{State, opening}
 use Rattle.far_world.specs.Linearizable.{HasOneLegalHistory}

@@ -1,4 +1,5 @@
 -- The choice by a pick: sends by rising client, and then deliveries by rising place.
+use Rattle.far_model.specs.Members.{is_empty}
 use Rattle.std.proofs.Common.{◌≡◌, ℕ, zero, suc, ◌+◌, ◌-◌, ◌<◌, ◌≤◌, ◌%◌, Bool, true, false, List, [], ◌∷◌, ◌++◌, length, get_or, take, refl, sym, ap, ◌∙◌, subst, cond, Some, arith, length-append}
 use Rattle.std.proofs.lemmas.List.{get_or-append_right}
 use Rattle.std.proofs.lemmas.List.Sums.{sum_by-cons}
@@ -9,7 +10,7 @@ use Rattle.far_base.specs.declared.event.Event.{Event}
 use Rattle.far_base.specs.declared.event.Event.TheVariants.{Send, Deliver, Tick}
 use Rattle.far_base.specs.declared.packet.Message.{Message}
 use Rattle.far_model.specs.Clients.{ClientState}
-use Rattle.far_model.specs.Events.{can_send, send_choices, deliver_choices, is_none_left}
+use Rattle.far_model.specs.Events.{can_send, send_choices, deliver_choices}
 use Rattle.far_world.specs.WorldView.{possible, picked}
 
 senders_cons : (x : ClientState) (xs : List ClientState) → count_by can_send (x ∷ xs) ≡ cond (can_send x) 1 0 + count_by can_send xs
@@ -67,6 +68,6 @@ picks_delivery clients bag pick place senders e f h k =
 pub below : (pick n : ℕ) → 0 < n → pick % n < n
 below pick n h = omega arith
 
-pub none_left_is : (xs : List Event) → nat_eq (length xs) 0 ≡ is_none_left xs
+pub none_left_is : (xs : List Event) → nat_eq (length xs) 0 ≡ is_empty xs
 none_left_is [] = refl
 none_left_is (x ∷ xs) = let e : nat_eq (suc (length xs)) 0 ≡ false = grind arith in e

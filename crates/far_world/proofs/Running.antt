@@ -11,11 +11,11 @@ use Rattle.far_base.specs.declared.record.Record.{Record}
 use Rattle.far_history.specs.RoomyLog.{RoomyLog}
 use Rattle.far_model.specs.Clients.{ClientState, script_from}
 use Rattle.far_model.specs.Events.{happens, happens_with, is_enabled}
-use Rattle.far_model.specs.Flights.{IsRouted, OneFlightPerOperation}
+use Rattle.far_invariants.specs.Flights.{IsRouted, OneFlightPerOperation}
 use Rattle.far_model.specs.Members.{Among}
 use Rattle.far_model.specs.Runs.{IsRun, run}
 use Rattle.far_model.specs.State.{State, opening, client_at, clients_from, nobody}
-use Rattle.far_model.specs.Uncached.{IsUncached, IsUncachedPlan}
+use Rattle.far_invariants.specs.Uncached.{IsUncached, IsUncachedPlan}
 use Rattle.far_model.specs.Work.{work_left}
 use Rattle.far_world.proofs.Drawing.{drawn_lasts}
 use Rattle.far_world.specs.Drawn.{drawn_in}

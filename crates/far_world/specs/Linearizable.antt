@@ -3,7 +3,7 @@ use Rattle.std.specs.Prelude.{List}
 use Rattle.far_base.specs.declared.log.Placed.{Placed}
 use Rattle.far_model.specs.Coherent.{IsCoherent}
 use Rattle.far_model.specs.History.{IsHistory, IsLinearizable}
-use Rattle.far_model.specs.Invariants.{AnswersAreCurrent}
+use Rattle.far_invariants.specs.Invariants.{AnswersAreCurrent}
 use Rattle.far_base.specs.declared.log.LogLine.{LogLine}
 
 -- the log is coherent; each read is answered with at least what was exposed when it was sent, and each write with at

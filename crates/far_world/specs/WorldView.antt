@@ -1,4 +1,5 @@
 -- A world as contracts see it.
+use Rattle.far_model.specs.Replies.{AnswersInKind}
 use Rattle.std.specs.Prelude.{◌≡◌, ℕ, ◌+◌, ◌%◌, ◌<◌, ◌≤◌, true, List, [], ◌∷◌, ◌++◌, length, map, replicate, slice_index_or, is_some, Option, Some, None}
 use Rattle.far_base.specs.PlanView.{PlanView}
 use Rattle.far_base.specs.declared.event.Event.{Event}
@@ -14,12 +15,11 @@ use Rattle.far_history.specs.RoomyLog.{RoomyLog}
 use Rattle.far_world.specs.Drawn.{drawn_in}
 use Rattle.far_model.specs.Clients.{ClientState}
 use Rattle.far_model.specs.Events.{Keeping, send_choices, deliver_choices, can_send, happens_with}
-use Rattle.far_model.specs.Flights.{IsRouted, OneFlightPerOperation}
+use Rattle.far_invariants.specs.Flights.{IsRouted, OneFlightPerOperation}
 use Rattle.far_model.specs.Members.{Among}
-use Rattle.far_model.specs.Replies.{KeepersAnswer}
 use Rattle.far_model.specs.Runs.{IsRun, run}
 use Rattle.far_model.specs.State.{State, opening, client_at, nobody, line_at}
-use Rattle.far_model.specs.Uncached.{IsUncached, IsUncachedPlan}
+use Rattle.far_invariants.specs.Uncached.{IsUncached, IsUncachedPlan}
 use Rattle.far_model.specs.View.{opening_view}
 use Rattle.far_model.specs.Work.{work_left}
 
@@ -61,7 +61,7 @@ state_of plan counter clients records messages log = record (opening plan) {
 -- what follows an event where the keepers answered in kind, whatever records are told at the servers
 pub record IsAfter (plan : PlanView) (s : State) (e : Event) (t : State) : Type 0 where
   pub keeping : Keeping
-  pub answers : KeepersAnswer s e keeping
+  pub answers : AnswersInKind s e keeping
   pub after : t ≡ record (happens_with plan keeping s e) { servers = t.servers }
   pub servers : length t.servers ≡ length s.servers
 

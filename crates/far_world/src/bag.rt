@@ -10,6 +10,7 @@ pub(crate) struct Bag {
 }
 
 impl Model for Bag {
+    ghost use Rattle.far_model.specs.Members.{is_empty};
     ghost use Rattle.std.specs.Prelude.{map};
     ghost use Rattle.far_world.specs.RoomyBag.{AreSpellings, RoomyBag, message_of};
 
@@ -22,7 +23,6 @@ impl Model for Bag {
 
 ghost use Rattle.std.specs.Prelude.{◌≡◌, ◌+◌, ◌-◌, ◌^◌, ◌<◌, ◌≤◌, ◌++◌, [], ◌∷◌, length, remove, slice_get, Some, OnOk};
 ghost use Rattle.far_model.specs.Parties.{messages_from};
-ghost use Rattle.far_model.specs.Runs.{is_empty_bag};
 
 impl Bag {
     /// No messages.
@@ -43,7 +43,7 @@ impl Bag {
 
     /// Whether there are none.
     pub(crate) fn is_empty(&self) -> bool
-        ensures { result ≡ is_empty_bag self.now.messages }
+        ensures { result ≡ is_empty self.now.messages }
     {
         self.wires.count() == 0
     }

@@ -8,7 +8,7 @@ ghost use Rattle.far_model.specs.Events as events;
 ghost use Rattle.far_model.specs.Members.{Among};
 ghost use Rattle.far_model.specs.Parties.{messages_from};
 ghost use Rattle.far_model.specs.Pass as passes;
-ghost use Rattle.far_model.specs.Uncached.{GoesTo, IsUncached, IsUncachedPlan};
+ghost use Rattle.far_invariants.specs.Uncached.{GoesTo, IsUncached, IsUncachedPlan};
 ghost use Rattle.far_outside.specs.Faults.{Rose};
 ghost use Rattle.far_base.specs.declared.event.Event.{Event};
 ghost use Rattle.far_model.specs.View.{opening_view};

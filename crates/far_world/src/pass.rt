@@ -14,7 +14,7 @@ ghost use Rattle.far_base.specs.declared.log.LogEntry.TheVariants.{Emitted};
 ghost use Rattle.far_base.specs.declared.party.Party.TheVariants.{Client, Server, Switch};
 ghost use Rattle.far_model.specs.View as view;
 ghost use Rattle.far_model.specs.Pass as model;
-ghost use Rattle.far_model.specs.Uncached.{GoesTo};
+ghost use Rattle.far_invariants.specs.Uncached.{GoesTo};
 ghost use Rattle.far_world.specs.WorldView.{number_of};
 
 /// The server of a key.

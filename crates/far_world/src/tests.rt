@@ -2,7 +2,7 @@ ghost use Rattle.std.specs.Prelude.{◌≡◌, IfOk, IsTrue};
 ghost use Rattle.std.specs.List.{list_all};
 ghost use Rattle.far_base.specs.Key.{is_visible};
 ghost use Rattle.far_base.specs.Limits.{IsVisibleBody};
-ghost use Rattle.far_model.specs.Uncached.{IsUncachedPlan};
+ghost use Rattle.far_invariants.specs.Uncached.{IsUncachedPlan};
 ghost use Rattle.far_base.specs.declared.plan.Op.TheVariants.{Put};
 
 use super::*;

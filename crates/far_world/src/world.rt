@@ -49,7 +49,7 @@ ghost use Rattle.far_model.specs.Events as model;
 ghost use Rattle.far_model.specs.Answered.{AllAnswered};
 ghost use Rattle.far_model.specs.Runs as runs;
 ghost use Rattle.far_model.specs.State.{opening, clients_from};
-ghost use Rattle.far_model.specs.Uncached.{IsUncachedPlan};
+ghost use Rattle.far_invariants.specs.Uncached.{IsUncachedPlan};
 ghost use Rattle.far_model.specs.Work.{work_left};
 ghost use Rattle.far_outside.specs.Faults.{Rose};
 ghost use Rattle.far_world.specs.Linearizable.{HasOneLegalHistory};

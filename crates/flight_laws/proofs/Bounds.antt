@@ -15,10 +15,10 @@ use Rattle.far_base.specs.declared.plan.OpLine.{OpLine}
 use Rattle.far_base.specs.declared.plan.Order.{Order}
 use Rattle.far_base.specs.declared.plan.Order.TheVariants.{Admit as AdmitOrder, Evict as EvictOrder, Snap as SnapOrder, Stop as StopOrder, StopAt as StopAtOrder}
 use Rattle.far_model.specs.Clients.{opening_client, script_from}
-use Rattle.far_model.specs.Flights.{OfOperation, OneFlightPerOperation, flights_of, is_of_client, open_count, subject}
+use Rattle.far_invariants.specs.Flights.{OfOperation, OneFlightPerOperation, flights_of, is_of_client, open_count, subject}
 use Rattle.far_model.specs.Members.{Among}
 use Rattle.far_model.specs.State.{State, client_at, clients_from, opening}
-use Rattle.far_model.specs.Uncached.{GoesTo, IsUncached, IsUncachedPlan}
+use Rattle.far_invariants.specs.Uncached.{GoesTo, IsUncached, IsUncachedPlan}
 use Rattle.far_model.specs.View.{SwitchView, opening_view}
 use Rattle.far_model.specs.Work.{client_weight, order_weight, work_bound, work_left}
 use Rattle.flight_laws.proofs.Sends.{message_count}

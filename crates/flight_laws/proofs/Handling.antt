@@ -19,13 +19,13 @@ use Rattle.far_base.specs.declared.record.Record.{Record}
 use Rattle.far_model.specs.Clients.{ClientState, client_takes, closed, preserves, answered_record, line_of, request}
 use Rattle.far_model.specs.Controller.{ControllerState, controller_takes, evict_key, ready, start_recovery, start_snapshot, tick, wanted}
 use Rattle.far_model.specs.Events.{Keeping, can_send, client_turn, controller_turn, delivers, does_order, handled, happens, happens_with, has_next, is_enabled, keeping_of, next_sent, reply_goes_to, restarts, server_turn, switch_turn, ticks}
-use Rattle.far_model.specs.Flights.{Subject, OfOperation, OfNone, IsFor, IsRouted, OneFlightPerOperation, Travels, flights_of, is_operation, open_count, subject}
+use Rattle.far_invariants.specs.Flights.{Subject, OfOperation, OfNone, IsFor, IsRouted, OneFlightPerOperation, Travels, flights_of, is_operation, open_count, subject}
 use Rattle.far_model.specs.KeyedRecords.{put_record}
 use Rattle.far_model.specs.Log.{is_read}
 use Rattle.far_model.specs.Members.{Among, Each}
 use Rattle.far_model.specs.Parties.{Turn, idle, messages_from}
 use Rattle.far_model.specs.Pass.{pass, passed_out}
-use Rattle.far_model.specs.Replies.{IsRunWith, KeepersAnswer, KeptEvent, RepliesAt, RepliesToMessage, run_with}
+use Rattle.far_model.specs.Replies.{IsRunWith, KeptEvent, RepliesAt, RepliesToMessage, run_with, AnswersInKind, ceiling_after}
 use Rattle.far_model.specs.Runs.{IsRun, run}
 use Rattle.far_model.specs.Servers.{server_keeps}
 use Rattle.far_model.specs.State.{State, client_at, clients_from, nobody, opening, records_at}
@@ -228,7 +228,7 @@ order_done plan k s (Some (SnapOrder step)) h = rules_on plan k s (start_snapsho
 order_done plan k s (Some (StopOrder step)) h = same_flights plan s (does_order plan s (Some (StopOrder step))) h refl refl refl refl
 order_done plan k s (Some (StopAtOrder kind times)) h = same_flights plan s (does_order plan s (Some (StopAtOrder kind times))) h refl refl refl refl
 
-pub flight_step : (plan : PlanView) (k : Keeping) (s : State) (e : Event) → IsInFlight plan s → KeepersAnswer s e k → is_enabled plan s e ≡ true → IsInFlight plan (happens_with plan k s e)
+pub flight_step : (plan : PlanView) (k : Keeping) (s : State) (e : Event) → IsInFlight plan s → AnswersInKind s e k → is_enabled plan s e ≡ true → IsInFlight plan (happens_with plan k s e)
 flight_step plan k s (Send c) h ans able = flight_sent plan k s c h able
 flight_step plan k s (Deliver i) h ans able = by (slice_get s.bag i) refl ans
   where
@@ -252,9 +252,10 @@ flight_step plan k s (OrderOf j) h ans able =
 
 -- ---- runs
 
-pub flight_run_with : (plan : PlanView) (s : State) (events : List KeptEvent) → IsInFlight plan s → IsRunWith plan s events → IsInFlight plan (run_with plan s events)
-flight_run_with plan s [] h r = h
-flight_run_with plan s (e ∷ es) h r = flight_run_with plan (happens_with plan e.keeping s e.event) es (flight_step plan e.keeping s e.event h r.1 r.0) r.2
+pub flight_run_with : (plan : PlanView) (ceiling : ℕ) (s : State) (events : List KeptEvent) → IsInFlight plan s → IsRunWith plan ceiling s events → IsInFlight plan (run_with plan s events)
+flight_run_with plan ceiling s [] h r = h
+flight_run_with plan ceiling s (e ∷ es) h r =
+    flight_run_with plan (ceiling_after s e.event ceiling) (happens_with plan e.keeping s e.event) es (flight_step plan e.keeping s e.event h r.1.kind r.0) r.2
 
 pub flight_run : (plan : PlanView) (s : State) (events : List Event) → IsInFlight plan s → IsRun plan s events → IsInFlight plan (run plan s events)
 flight_run plan s [] h r = h

@@ -9,7 +9,7 @@ use Rattle.std.proofs.lemmas.Option.{get_or_from_slice_get, slice_get_within, no
 use Rattle.far_base.specs.declared.packet.Message.{Message}
 use Rattle.far_base.specs.declared.plan.Config.{Config}
 use Rattle.far_model.specs.Clients.{ClientState}
-use Rattle.far_model.specs.Flights.{Subject, OfOperation, OneFlightPerOperation, flights_of, is_of_client, is_operation, open_count, subject}
+use Rattle.far_invariants.specs.Flights.{Subject, OfOperation, OneFlightPerOperation, flights_of, is_of_client, is_operation, open_count, subject}
 use Rattle.far_model.specs.Members.{Among}
 use Rattle.far_model.specs.State.{State, client_at, nobody}
 use Rattle.far_model.proofs.Members.{among_append, among_at, among_remove}

@@ -6,7 +6,7 @@ use Rattle.far_base.specs.declared.packet.Packet.{Packet}
 use Rattle.far_base.specs.declared.packet.Packet.TheVariants.{GetReq, WriteReq, GetFwd, WriteFwd, GetRep, WriteRep, GetAns, WriteAns, Hot, Admit, AdmitAck, Peek, PeekAns, Remove, RemoveAns, SnapStart, SnapBegun, SnapRead, SnapPart, Store, Stored, Release, Ask, Told, TopAsk, TopIs, SnapSame, SnapFrom}
 use Rattle.far_base.specs.declared.party.Party.TheVariants.{Client, Switch, Server, Controller}
 use Rattle.far_base.specs.declared.plan.Config.{Config}
-use Rattle.far_model.specs.Flights.{Subject, OfOperation, subject, is_operation, IsFor}
+use Rattle.far_invariants.specs.Flights.{Subject, OfOperation, subject, is_operation, IsFor}
 use Rattle.far_model.specs.Parties.{messages_from}
 use Rattle.far_model.specs.Pass.{Passed, pass, passed_out, dropped, sent_to, touched, told_hot, grows_hot, hot_cell, part_of, part_left, is_as_before, with_slot, with_taken, changed_view, changes, read_passes, absorbing, write_passes, numbered, takes_reply, raised, reply_passes, is_slot_there, admits, admitted, is_under, peeks, may_go, removed_answer, removes, starts_snapshot, reads_part}
 use Rattle.far_model.specs.View.{SlotView, SwitchView, slot_at, entry_place, server_of, is_taken, held_record, empty_slot, shown_body, bind_key}

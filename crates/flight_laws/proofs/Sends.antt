@@ -5,7 +5,7 @@ use Rattle.far_base.specs.declared.packet.Message.{Message}
 use Rattle.far_base.specs.declared.packet.Out.{Out}
 use Rattle.far_base.specs.declared.party.Party.{Party}
 use Rattle.far_base.specs.declared.plan.Config.{Config}
-use Rattle.far_model.specs.Flights.{Subject, OfOperation, OfAdmission, OfEviction, OfJob, OfSnapshot, OfRound, OfNone, subject, is_operation, is_of_client, flights_of, Travels}
+use Rattle.far_invariants.specs.Flights.{Subject, OfOperation, OfAdmission, OfEviction, OfJob, OfSnapshot, OfRound, OfNone, subject, is_operation, is_of_client, flights_of, Travels}
 use Rattle.far_model.specs.Members.{Among, Each}
 use Rattle.far_model.specs.Parties.{messages_from}
 use Rattle.far_model.proofs.Members.{among_map_from, each_among}

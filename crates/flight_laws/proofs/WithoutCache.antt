@@ -24,11 +24,11 @@ use Rattle.far_model.specs.Log.{is_read}
 use Rattle.far_model.specs.Members.{Among}
 use Rattle.far_model.specs.Parties.{Turn, messages_from}
 use Rattle.far_model.specs.Pass.{counted, grows_hot, hot_cell, in_era, cell_of, pass, read_passes, write_passes, reply_passes, sent_to, told_hot, touched}
-use Rattle.far_model.specs.Replies.{KeepersAnswer, RepliesAt, RepliesToMessage}
+use Rattle.far_model.specs.Replies.{RepliesAt, RepliesToMessage, AnswersInKind}
 use Rattle.far_model.specs.Runs.{IsRun, run}
 use Rattle.far_model.specs.Servers.{server_keeps}
 use Rattle.far_model.specs.State.{State, client_at, clients_from, nobody, opening, records_at}
-use Rattle.far_model.specs.Uncached.{GoesTo, IsPlainClient, IsUncached, IsUncachedPlan, is_send_or_deliver}
+use Rattle.far_invariants.specs.Uncached.{GoesTo, IsPlainClient, IsUncached, IsUncachedPlan, is_send_or_deliver}
 use Rattle.far_model.specs.View.{HOT_CELLS, HotCell, bound_place, entry_if, entry_place, next_place, opening_view, server_of}
 use Rattle.far_model.proofs.Members.{among_append, among_at, among_remove}
 use Rattle.flight_laws.proofs.Lists.{all_set, by_test, get_or-replicate_default, set-replicate}
@@ -96,7 +96,7 @@ replies_in_kind : (s : State) (o : Option Message) → RepliesToMessage o (reply
 replies_in_kind s None = tt
 replies_in_kind s (Some m) = reply_in_kind s m.to m.packet
 
-pub answers_in_kind : (s : State) (e : Event) → KeepersAnswer s e (keeping_of s e)
+pub answers_in_kind : (s : State) (e : Event) → AnswersInKind s e (keeping_of s e)
 answers_in_kind s (Deliver i) = replies_in_kind s (slice_get s.bag i)
 answers_in_kind s _ = tt
 
@@ -235,7 +235,7 @@ only_messages plan s Recover p uncached h = absurd (true≢false (sym h ∙ no_r
 only_messages plan s Restart p uncached h = absurd (true≢false (sym h ∙ ap is_some (no_restart plan s uncached)))
 only_messages plan s (OrderOf j) p uncached h = absurd (true≢false (sym (and_parts _ _ h).1 ∙ no_order plan s p))
 
-pub step_uncached : (plan : PlanView) (k : Keeping) (s : State) (e : Event) → IsUncachedPlan plan → IsUncached plan s → KeepersAnswer s e k → is_enabled plan s e ≡ true → IsUncached plan (happens_with plan k s e)
+pub step_uncached : (plan : PlanView) (k : Keeping) (s : State) (e : Event) → IsUncachedPlan plan → IsUncached plan s → AnswersInKind s e k → is_enabled plan s e ≡ true → IsUncached plan (happens_with plan k s e)
 step_uncached plan k s (Send c) p uncached ans h = sent plan k s c uncached h
 step_uncached plan k s (Deliver i) p uncached ans h = by (slice_get s.bag i) refl ans h
   where

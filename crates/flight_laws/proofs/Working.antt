@@ -26,10 +26,10 @@ use Rattle.far_model.specs.Log.{is_read}
 use Rattle.far_model.specs.Members.{Among}
 use Rattle.far_model.specs.Parties.{Turn, messages_from}
 use Rattle.far_model.specs.Pass.{pass, sent_to}
-use Rattle.far_model.specs.Replies.{KeepersAnswer, RepliesAt, RepliesToMessage}
+use Rattle.far_model.specs.Replies.{RepliesAt, RepliesToMessage, AnswersInKind}
 use Rattle.far_model.specs.Runs.{IsRun, run}
 use Rattle.far_model.specs.State.{State, client_at, nobody}
-use Rattle.far_model.specs.Uncached.{GoesTo, IsUncached, IsUncachedPlan}
+use Rattle.far_invariants.specs.Uncached.{GoesTo, IsUncached, IsUncachedPlan}
 use Rattle.far_model.specs.View.{SwitchView, is_taken, opening_view, server_of}
 use Rattle.far_model.specs.Work.{client_weight, job_weight, message_weight, order_weight, packet_weight, room, round_weight, stop_weight, stopped_weight, untaken_from, wants_weight, work_left}
 use Rattle.far_model.proofs.Members.{among_at, among_remove}
@@ -163,7 +163,7 @@ sending_lowers plan k s c p uncached able = by (client_at s c).left refl (and_pa
           counter = omega arith;
         }
 
-pub step_lowers : (plan : PlanView) (k : Keeping) (s : State) (e : Event) → IsUncachedPlan plan → IsUncached plan s → KeepersAnswer s e k → is_enabled plan s e ≡ true → Lowers plan s (happens_with plan k s e)
+pub step_lowers : (plan : PlanView) (k : Keeping) (s : State) (e : Event) → IsUncachedPlan plan → IsUncached plan s → AnswersInKind s e k → is_enabled plan s e ≡ true → Lowers plan s (happens_with plan k s e)
 step_lowers plan k s (Send c) p uncached ans able = sending_lowers plan k s c p uncached able
 step_lowers plan k s (Deliver i) p uncached ans able = by (slice_get s.bag i) refl ans able
   where

@@ -5,8 +5,8 @@ ghost use Rattle.far_base.specs.Limits.{IsPlan};
 ghost use Rattle.far_base.specs.PlanView.{PlanView};
 ghost use Rattle.far_base.specs.declared.event.Event.{Event};
 ghost use Rattle.far_model.specs.Events.{Keeping, happens, happens_with, is_enabled, keeping_of};
-ghost use Rattle.far_model.specs.Flights.{IsRouted, OneFlightPerOperation};
-ghost use Rattle.far_model.specs.Replies.{IsRunWith, KeepersAnswer, KeptEvent, run_with};
+ghost use Rattle.far_invariants.specs.Flights.{IsRouted, OneFlightPerOperation};
+ghost use Rattle.far_model.specs.Replies.{IsRunWith, KeptEvent, run_with, AnswersInKind};
 ghost use Rattle.far_model.specs.Runs.{IsRun, run};
 ghost use Rattle.far_model.specs.State.{State, opening};
 ghost use Rattle.far_model.specs.Work.{work_bound, work_left};
@@ -14,11 +14,11 @@ ghost use Rattle.far_model.specs.Work.{work_bound, work_left};
 /// Each open operation has exactly one packet on its way, and no other operation has one. The
 /// rule of a server answers in kind.
 pub fn one_flight()
-    ensures answers { (s : State) (e : Event) → KeepersAnswer s e (keeping_of s e) }
+    ensures answers { (s : State) (e : Event) → AnswersInKind s e (keeping_of s e) }
     ensures opens { (plan : PlanView) → OneFlightPerOperation (opening plan) }
-    ensures step_with { (plan : PlanView) (k : Keeping) (s : State) (e : Event) → IsRouted plan s → OneFlightPerOperation s → KeepersAnswer s e k → is_enabled plan s e ≡ true → OneFlightPerOperation (happens_with plan k s e) }
+    ensures step_with { (plan : PlanView) (k : Keeping) (s : State) (e : Event) → IsRouted plan s → OneFlightPerOperation s → AnswersInKind s e k → is_enabled plan s e ≡ true → OneFlightPerOperation (happens_with plan k s e) }
     ensures step { (plan : PlanView) (s : State) (e : Event) → IsRouted plan s → OneFlightPerOperation s → is_enabled plan s e ≡ true → OneFlightPerOperation (happens plan s e) }
-    ensures runs_with { (plan : PlanView) (events : List KeptEvent) → IsRunWith plan (opening plan) events → OneFlightPerOperation (run_with plan (opening plan) events) }
+    ensures runs_with { (plan : PlanView) (events : List KeptEvent) → IsRunWith plan 0 (opening plan) events → OneFlightPerOperation (run_with plan (opening plan) events) }
     ensures runs { (plan : PlanView) (events : List Event) → IsRun plan (opening plan) events → OneFlightPerOperation (run plan (opening plan) events) }
 {}
 
@@ -26,9 +26,9 @@ pub fn one_flight()
 /// its kind says.
 pub fn routes()
     ensures opens { (plan : PlanView) → IsRouted plan (opening plan) }
-    ensures step_with { (plan : PlanView) (k : Keeping) (s : State) (e : Event) → IsRouted plan s → OneFlightPerOperation s → KeepersAnswer s e k → is_enabled plan s e ≡ true → IsRouted plan (happens_with plan k s e) }
+    ensures step_with { (plan : PlanView) (k : Keeping) (s : State) (e : Event) → IsRouted plan s → OneFlightPerOperation s → AnswersInKind s e k → is_enabled plan s e ≡ true → IsRouted plan (happens_with plan k s e) }
     ensures step { (plan : PlanView) (s : State) (e : Event) → IsRouted plan s → OneFlightPerOperation s → is_enabled plan s e ≡ true → IsRouted plan (happens plan s e) }
-    ensures runs_with { (plan : PlanView) (events : List KeptEvent) → IsRunWith plan (opening plan) events → IsRouted plan (run_with plan (opening plan) events) }
+    ensures runs_with { (plan : PlanView) (events : List KeptEvent) → IsRunWith plan 0 (opening plan) events → IsRouted plan (run_with plan (opening plan) events) }
     ensures runs { (plan : PlanView) (events : List Event) → IsRun plan (opening plan) events → IsRouted plan (run plan (opening plan) events) }
 {}
 

@@ -1,5 +1,6 @@
 //! What holds in worlds in which the cache plays no part.
 
+ghost use Rattle.far_model.specs.Replies.{AnswersInKind};
 ghost use Rattle.std.specs.Prelude.{◌≡◌, ℕ, suc, ◌+◌, ◌*◌, ◌≤◌, ◌<◌, ◌^◌, Bool, true, false, List, ◌++◌, length, Option, None};
 ghost use Rattle.far_base.specs.PlanView.{PlanView};
 ghost use Rattle.far_base.specs.declared.event.Event.{Event};
@@ -8,12 +9,11 @@ ghost use Rattle.far_base.specs.declared.party.Party.TheVariants.{Client, Server
 ghost use Rattle.far_base.specs.declared.plan.Config.{Config};
 ghost use Rattle.far_model.specs.Controller.{tick, ready};
 ghost use Rattle.far_model.specs.Events.{Keeping, can_recover, choices, deliver_choices, happens, happens_with, is_enabled, is_order_enabled, send_choices};
-ghost use Rattle.far_model.specs.Flights.{OneFlightPerOperation};
+ghost use Rattle.far_invariants.specs.Flights.{OneFlightPerOperation};
 ghost use Rattle.far_model.specs.Pass.{pass, sent_to};
-ghost use Rattle.far_model.specs.Replies.{KeepersAnswer};
 ghost use Rattle.far_model.specs.Runs.{IsRun, is_finished, is_quiet, run};
 ghost use Rattle.far_model.specs.State.{State, opening};
-ghost use Rattle.far_model.specs.Uncached.{IsUncached, IsUncachedPlan, is_send_or_deliver};
+ghost use Rattle.far_invariants.specs.Uncached.{IsUncached, IsUncachedPlan, is_send_or_deliver};
 ghost use Rattle.far_model.specs.View.{entry_place, opening_view, server_of};
 ghost use Rattle.far_model.specs.Work.{work_left};
 
@@ -31,7 +31,7 @@ pub fn uncached_passes()
 /// kind; and then only sendings and deliveries can happen.
 pub fn uncached_runs()
     ensures opens { (plan : PlanView) → IsUncachedPlan plan → IsUncached plan (opening plan) }
-    ensures step_with { (plan : PlanView) (k : Keeping) (s : State) (e : Event) → IsUncachedPlan plan → IsUncached plan s → KeepersAnswer s e k → is_enabled plan s e ≡ true → IsUncached plan (happens_with plan k s e) }
+    ensures step_with { (plan : PlanView) (k : Keeping) (s : State) (e : Event) → IsUncachedPlan plan → IsUncached plan s → AnswersInKind s e k → is_enabled plan s e ≡ true → IsUncached plan (happens_with plan k s e) }
     ensures step { (plan : PlanView) (s : State) (e : Event) → IsUncachedPlan plan → IsUncached plan s → is_enabled plan s e ≡ true → IsUncached plan (happens plan s e) }
     ensures runs { (plan : PlanView) (events : List Event) → IsUncachedPlan plan → IsRun plan (opening plan) events → IsUncached plan (run plan (opening plan) events) }
     ensures only { (plan : PlanView) (s : State) (e : Event) → IsUncachedPlan plan → IsUncached plan s → is_enabled plan s e ≡ true → is_send_or_deliver e ≡ true }
@@ -46,9 +46,9 @@ pub fn uncached_runs()
 /// that is left are at most the work of the plan, no number is above the steps, and the bag holds
 /// at most one message for each client.
 pub fn uncached_work()
-    ensures lowers_with { (plan : PlanView) (k : Keeping) (s : State) (e : Event) → IsUncachedPlan plan → IsUncached plan s → KeepersAnswer s e k → is_enabled plan s e ≡ true → suc (work_left plan (happens_with plan k s e)) ≤ work_left plan s }
+    ensures lowers_with { (plan : PlanView) (k : Keeping) (s : State) (e : Event) → IsUncachedPlan plan → IsUncached plan s → AnswersInKind s e k → is_enabled plan s e ≡ true → suc (work_left plan (happens_with plan k s e)) ≤ work_left plan s }
     ensures lowers { (plan : PlanView) (s : State) (e : Event) → IsUncachedPlan plan → IsUncached plan s → is_enabled plan s e ≡ true → suc (work_left plan (happens plan s e)) ≤ work_left plan s }
-    ensures numbers_with { (plan : PlanView) (k : Keeping) (s : State) (e : Event) → IsUncachedPlan plan → IsUncached plan s → KeepersAnswer s e k → is_enabled plan s e ≡ true → (happens_with plan k s e).switch.counter ≤ s.switch.counter + 1 }
+    ensures numbers_with { (plan : PlanView) (k : Keeping) (s : State) (e : Event) → IsUncachedPlan plan → IsUncached plan s → AnswersInKind s e k → is_enabled plan s e ≡ true → (happens_with plan k s e).switch.counter ≤ s.switch.counter + 1 }
     ensures bag { (plan : PlanView) (s : State) → IsUncached plan s → OneFlightPerOperation s → length s.bag ≤ plan.config.clients }
     ensures opening { (plan : PlanView) → IsUncachedPlan plan → work_left plan (opening plan) ≤ 24 * length plan.ops }
     ensures opening_small { (plan : PlanView) → IsUncachedPlan plan → work_left plan (opening plan) < 2 ^ 28 }

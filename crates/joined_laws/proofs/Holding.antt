@@ -17,15 +17,15 @@ use Rattle.far_model.specs.Clients.{line_of}
 use Rattle.far_model.specs.Controller.{ControllerState, ready, completes, job_turn, snapshot_begun, part_came, same_part, same_came, controller_takes}
 use Rattle.far_model.specs.Events.{happens, is_enabled, keeping_of, restarts, controller_turn, handled, is_switch, all_listed, reply_at, delivers, can_deliver_some, reply_to}
 use Rattle.far_model.specs.Evictions.{Eviction, state_at}
-use Rattle.far_model.specs.Flights.{IsRouted, OneFlightPerOperation, subject}
-use Rattle.far_model.specs.History.{Held as HeldIn}
-use Rattle.far_model.specs.Invariants.{IsWritten, AdmissionIs, look, slot_if}
+use Rattle.far_invariants.specs.Flights.{IsRouted, OneFlightPerOperation, subject}
+use Rattle.far_base.specs.declared.record.Versioned.{Versioned}
+use Rattle.far_invariants.specs.Invariants.{IsWritten, AdmissionIs, look, slot_if}
 use Rattle.far_model.specs.KeyedRecords.{found}
-use Rattle.far_model.specs.Kept.{IsAtServer, IsInSlot, IsInSnapshot, Covers}
+use Rattle.far_invariants.specs.Covers.{IsAtServer, IsInSlot, IsInSnapshot, Covers}
 use Rattle.far_model.specs.Log.{is_read}
 use Rattle.far_model.specs.Members.{Among}
 use Rattle.far_model.specs.Parties.{Turn, idle}
-use Rattle.far_model.specs.Past.{Past}
+use Rattle.far_invariants.specs.Past.{Past}
 use Rattle.far_model.specs.Rounds.{Round}
 use Rattle.far_model.specs.Snapshots.{Job, SnapshotView, no_snapshot, has_begun, has_part, is_whole, completed, view_records, with_part, with_same, part_reads}
 use Rattle.far_model.specs.State.{State, records_at, line_at}
@@ -212,7 +212,7 @@ module _ (plan : PlanView) (past : Past) (s : State) (valid : IsPlan plan) (h : 
       let is = h.stops.servers n in
       let here : found (records_at s n) r.key ≡ look plan s r.key = ap (λ m. found (records_at s m) r.key) (sym (is.own r a)) in
       let same = sym here ∙ found_member r (records_at s n) is.apart a in
-      subst (λ (w : HeldIn). IsWritten plan s.log s.steps r.key w.num w.body) same (h.keeps.records r.key)
+      subst (λ (w : Versioned). IsWritten plan s.log s.steps r.key w.num w.body) same (h.keeps.records r.key)
 
   -- ---- what packets of operations rely on
 
@@ -336,7 +336,7 @@ module _ (plan : PlanView) (past : Past) (s : State) (valid : IsPlan plan) (h : 
   next_last c _ job e w = absurd cc
 
   -- such a packet goes to the controller
-  is_for_controller : (p : Packet) (job : Job) → next_job s.controller p ≡ Some job → (to : Rattle.far_base.specs.declared.party.Party.Party) → Rattle.far_model.specs.Flights.IsFor plan.config p to → to ≡ Controller
+  is_for_controller : (p : Packet) (job : Job) → next_job s.controller p ≡ Some job → (to : Rattle.far_base.specs.declared.party.Party.Party) → Rattle.far_invariants.specs.Flights.IsFor plan.config p to → to ≡ Controller
   is_for_controller (SnapBegun id point) job e to goes = goes
   is_for_controller (SnapPart id i view) job e to goes = goes
   is_for_controller (SnapSame id i) job e to goes = goes

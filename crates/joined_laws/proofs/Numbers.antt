@@ -19,10 +19,10 @@ use Rattle.far_base.specs.declared.record.Record.{Record}
 use Rattle.far_model.specs.Clients.{client_takes}
 use Rattle.far_model.specs.Controller.{ControllerState, controller_takes, tick, ready, evict_key, start_snapshot}
 use Rattle.far_model.specs.Events.{Keeping, happens, happens_with, keeping_of, handled, delivers, sends, ticks, recovers, restarts, does_order, recovery_items, next_sent}
-use Rattle.far_model.specs.Invariants.{IsWritten}
+use Rattle.far_invariants.specs.Invariants.{IsWritten}
 use Rattle.far_model.specs.Members.{Among}
 use Rattle.far_model.specs.Parties.{Turn}
-use Rattle.far_model.specs.Past.{Past, SnapshotStart, remembers, new_starts, starts_with, starts_by, start_of}
+use Rattle.far_invariants.specs.Past.{Past, SnapshotStart, remembers, new_starts, starts_with, starts_by, start_of}
 use Rattle.far_model.specs.Snapshots.{view_records}
 use Rattle.far_model.specs.State.{State, client_at, now, noted}
 use Rattle.far_model.specs.View.{SlotView, slot_at, held_record, empty_slot}

@@ -4,7 +4,7 @@ use Rattle.far_base.specs.Limits.{IsPlan}
 use Rattle.far_base.specs.PlanView.{PlanView}
 use Rattle.far_base.specs.declared.event.Event.{Event}
 use Rattle.far_model.specs.Events.{happens, is_enabled, keeping_of}
-use Rattle.far_model.specs.Past.{Past, past_of, no_past, remembers}
+use Rattle.far_invariants.specs.Past.{Past, past_of, no_past, remembers}
 use Rattle.far_model.specs.Runs.{IsRun, run, is_quiet, is_finished}
 use Rattle.far_model.specs.State.{State, opening}
 use Rattle.far_model.specs.Work.{work_left}

@@ -18,9 +18,9 @@ use Rattle.far_base.specs.declared.slot_state.SlotState.TheVariants.{Free, Admit
 use Rattle.far_model.specs.Controller.{ControllerState, tick, ready, start_recovery, wanted}
 use Rattle.far_model.specs.Events.{Keeping, happens, keeping_of, is_enabled, handled, delivers, reply_to, reply_at, sends, ticks, recovers, restarts, stops, does_order, is_order_due, is_order_enabled, is_possible, controller_turn, can_deliver_some, is_switch, all_listed}
 use Rattle.far_model.specs.Evictions.{state_at}
-use Rattle.far_model.specs.Invariants.{FitsState, IsGiven, AdmissionIs, is_admission_of, admission_count}
+use Rattle.far_invariants.specs.Invariants.{FitsState, IsGiven, AdmissionIs, is_admission_of, admission_count}
 use Rattle.far_model.specs.Parties.{Turn, idle}
-use Rattle.far_model.specs.Past.{Past, remembers, no_past, past_from}
+use Rattle.far_invariants.specs.Past.{Past, remembers, no_past, past_from}
 use Rattle.far_model.specs.Runs.{IsRun, run}
 use Rattle.far_model.specs.State.{State, opening}
 use Rattle.far_model.specs.View.{SlotView, opening_view, slot_at, empty_slot}

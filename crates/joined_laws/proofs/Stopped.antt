@@ -19,8 +19,8 @@ use Rattle.far_model.specs.Clients.{line_of}
 use Rattle.far_model.specs.Controller.{ControllerState, controller_takes, tick, tick_wants, tick_want, tick_free, tick_room, makes_room, admits_want, first_want_dropped}
 use Rattle.far_model.specs.Events.{handled, reply_at, delivers, can_deliver_some, reply_to, controller_turn, server_turn, stops, restarts, is_switch, recovery_items, ticks, Keeping}
 use Rattle.far_model.specs.Evictions.{is_free, has_key, first_place, victim}
-use Rattle.far_model.specs.Flights.{subject, is_operation, OneFlightPerOperation, IsRouted}
-use Rattle.far_model.specs.Invariants.{IsWritten, ShowsAtMost, look, entry, reach, reach_by, slot_if}
+use Rattle.far_invariants.specs.Flights.{subject, is_operation, OneFlightPerOperation, IsRouted}
+use Rattle.far_invariants.specs.Invariants.{IsWritten, look, entry, reach, reach_by, slot_if, ExposedAtMost}
 use Rattle.far_model.specs.Members.{Among, Each}
 use Rattle.far_model.specs.Parties.{Turn, idle}
 use Rattle.far_model.specs.State.{State, client_at, records_at, line_at, now, noted}
@@ -63,7 +63,7 @@ pub record ForgetsAll (plan : PlanView) (notes : List LogEntry) (s t : State) : 
   pub bag : (m : Message) → Among m t.bag → Among m s.bag
   pub none : (key : List ℕ) → entry key t.switch ≡ None
   pub counted : t.running ≡ true → (at op num : ℕ) → Among (line_at at (Numbered op num)) s.log → num ≤ t.switch.counter
-  pub current : t.running ≡ true → (key : List ℕ) → ShowsAtMost plan s.log key (look plan s key).num
+  pub current : t.running ≡ true → (key : List ℕ) → ExposedAtMost plan s.log key (look plan s key).num
 
 pub forgets_keep : (plan : PlanView) (notes : List LogEntry) (s t : State) → Keeps plan s → ForgetsAll plan notes s t → Keeps plan t
 forgets_keep plan notes s t k c =
@@ -76,7 +76,7 @@ forgets_keep plan notes s t k c =
       open_or_answered = λ at o h. waits_on o (k.open_or_answered at o (sent_before plan s t notes c.log (each_to IsControlNote IsNoSending notes note_sends c.notes_are) at o h));
       covers = λ runs key.
           let same : reach plan t key ≡ (look plan s key).num = ap (reach_by (look plan t key).num) (c.none key) ∙ ap (λ (w : Versioned). w.num) (looks key) in
-          subst (λ n. ShowsAtMost plan t.log key n) (sym same) (shown_lasts s t notes c.log plan key (look plan s key).num (c.current runs key) (off_shows_each plan key (look plan s key).num notes (off key)));
+          subst (λ n. ExposedAtMost plan t.log key n) (sym same) (shown_lasts s t notes c.log plan key (look plan s key).num (c.current runs key) (off_shows_each plan key (look plan s key).num notes (off key)));
       slots = λ key slot is. absurd (none_some key slot is);
     })
   where
@@ -132,7 +132,7 @@ items_control [] = tt
 items_control (r ∷ rs) = (tt, items_control rs)
 
 pub restart_keeps : (plan : PlanView) (k : Keeping) (s : State) (counter : ℕ) → Keeps plan s → ((at op num : ℕ) → Among (line_at at (Numbered op num)) s.log → num ≤ counter)
-    → ((key : List ℕ) → ShowsAtMost plan s.log key (look plan s key).num) → Keeps plan (restarts plan k s (Some counter))
+    → ((key : List ℕ) → ExposedAtMost plan s.log key (look plan s key).num) → Keeps plan (restarts plan k s (Some counter))
 restart_keeps plan k s counter keeps own current = forgets_keep plan (Recovered counter (length k.records) ∷ recovery_items k.records) s (restarts plan k s (Some counter)) keeps (record {
   log = refl;
   notes_are = (tt, items_control k.records);
@@ -203,7 +203,7 @@ module _ (plan : PlanView) (s : State) (k : Keeps plan s) (v : EvictionsAreSound
   delivered from to (Stored job) at can = at_controller to (Stored job) (routed.messages _ (among_at _ s.bag i at)).target
   delivered from to (Told round caller total item) at can = at_controller to (Told round caller total item) (routed.messages _ (among_at _ s.bag i at)).target
   delivered from to (TopIs round server top) at can = at_controller to (TopIs round server top) (routed.messages _ (among_at _ s.bag i at)).target
-  delivered from to (Store job item) at can = subst (λ w. Keeps plan (after w (Store job item))) (sym (routed.messages _ (among_at _ s.bag i at)).target) stored
+  delivered from to (Store job item) at can = subst (λ w. Keeps plan (after w (Store job item))) (sym (routed.messages _ (among_at _ s.bag i at)).target) stays
     where
       t : State
       t = server_turn s (server_of plan.config item.key) (remove s.bag i) (Store job item) (Some (Stored job))
@@ -211,8 +211,8 @@ module _ (plan : PlanView) (s : State) (k : Keeps plan s) (v : EvictionsAreSound
       reply : Message
       reply = record { from = Server (server_of plan.config item.key); to = Controller; packet = Stored job }
 
-      stored : Keeps plan t
-      stored = rules_keep plan [] s t k (record {
+      stays : Keeps plan t
+      stays = rules_keep plan [] s t k (record {
         log = refl;
         notes_are = tt;
         steps = refl;

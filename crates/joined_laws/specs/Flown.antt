@@ -7,7 +7,7 @@ use Rattle.far_base.specs.declared.packet.Packet.{Packet}
 use Rattle.far_base.specs.declared.packet.Packet.TheVariants.{Admit, AdmitAck}
 use Rattle.far_base.specs.declared.slot_state.SlotState.TheVariants.{Admitting}
 use Rattle.far_model.specs.Evictions.{state_at}
-use Rattle.far_model.specs.Invariants.{admits_under}
+use Rattle.far_invariants.specs.Invariants.{admits_under}
 use Rattle.far_model.specs.Members.{Among}
 use Rattle.far_model.specs.State.{State}
 

@@ -6,9 +6,9 @@ use Rattle.far_base.specs.declared.packet.Message.{Message}
 use Rattle.far_base.specs.declared.packet.Packet.{Packet}
 use Rattle.far_base.specs.declared.packet.Packet.TheVariants.{TopIs}
 use Rattle.far_base.specs.declared.record.Record.{Record}
-use Rattle.far_model.specs.Invariants.{IsWritten}
+use Rattle.far_invariants.specs.Invariants.{IsWritten}
 use Rattle.far_model.specs.Members.{Among}
-use Rattle.far_model.specs.Past.{SnapshotStart}
+use Rattle.far_invariants.specs.Past.{SnapshotStart}
 use Rattle.far_model.specs.Rounds.{Round}
 use Rattle.far_model.specs.Snapshots.{view_records}
 use Rattle.far_model.specs.State.{State}

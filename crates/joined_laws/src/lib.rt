@@ -2,6 +2,7 @@
 //! has logged.
 #![tactic(auto)]
 
+ghost use Rattle.far_model.specs.SnapshotAt.{IsSnapshotAt};
 ghost use Rattle.std.specs.Prelude.{◌≡◌, ℕ, suc, ◌+◌, ◌<◌, ◌≤◌, true, List, Option, Some, None, length, slice_get};
 ghost use Rattle.far_base.specs.Limits.{IsPlan};
 ghost use Rattle.far_base.specs.PlanView.{PlanView};
@@ -16,12 +17,13 @@ ghost use Rattle.far_laws.specs.Client.{KeepsClientOrder};
 ghost use Rattle.far_model.specs.Coherent.{IsCoherent};
 ghost use Rattle.far_model.specs.Events.{Keeping, all_listed, happens, happens_with, is_enabled};
 ghost use Rattle.far_model.specs.History.{IsHistory, IsLegal, IsLinearizable, KeepsRealTimeOrder};
-ghost use Rattle.far_model.specs.Invariants.{AdmissionsInFlight, AnswersAreCurrent, LogIsSound, NumbersAreSound, SlotsAreOwned, look};
-ghost use Rattle.far_model.specs.Kept.{IsAbsorbed, IsRecoveredMap};
+ghost use Rattle.far_invariants.specs.Invariants.{AdmissionsInFlight, AnswersAreCurrent, LogIsSound, NumbersAreSound, SlotsAreOwned, look};
+ghost use Rattle.far_invariants.specs.Covers.{IsAbsorbed};
+ghost use Rattle.far_model.specs.Kept.{IsRecoveredMap};
 ghost use Rattle.far_model.specs.Log.{exposed};
 ghost use Rattle.far_model.specs.Members.{Among};
-ghost use Rattle.far_model.specs.Past.{past_of};
-ghost use Rattle.far_model.specs.Replies.{IsRunWith, KeepersAnswer, KeptEvent, run_with};
+ghost use Rattle.far_invariants.specs.Past.{past_of};
+ghost use Rattle.far_model.specs.Replies.{IsRunWith, KeptEvent, run_with, AnswersInKind};
 ghost use Rattle.far_model.specs.Rounds.{Round};
 ghost use Rattle.far_model.specs.Runs.{IsRun, is_finished, is_quiet, run};
 ghost use Rattle.far_model.specs.State.{State, client_at, opening};
@@ -38,7 +40,7 @@ ghost use Rattle.recovery_laws.specs.Recoveries.{RecoversAfter, recovered_last};
 ghost use Rattle.recovery_laws.specs.Restarts.{IsRestored};
 ghost use Rattle.recovery_laws.specs.Rounds.{RoundInFlight};
 ghost use Rattle.recovery_laws.specs.Stops.{Outlives, Stops};
-ghost use Rattle.snapshot_laws.specs.Laws.{CompletedIsStart, CompletionIsSafe, IsSnapshotAt, MarksMatch, NoJobWhereQuiet, PartsAreStarts, PreservedIsAbove, ReleasedIsCovered};
+ghost use Rattle.snapshot_laws.specs.Laws.{CompletedIsStart, CompletionIsSafe, MarksMatch, NoJobWhereQuiet, PartsAreStarts, PreservedIsAbove, ReleasedIsCovered};
 ghost use Rattle.snapshot_laws.specs.Serving.{SnapshotsInFlight};
 ghost use Rattle.snapshot_laws.specs.Standing.{SnapshotsStand};
 
@@ -119,6 +121,6 @@ pub fn runs_come_to_their_end()
 
 /// The same holds of work and of quiet whatever the keepers answer, as long as they answer in kind.
 pub fn kept_runs_come_to_their_end()
-    ensures lowers { (plan : PlanView) (events : List KeptEvent) → IsPlan plan → IsRunWith plan (opening plan) events → (e : Event) (keeping : Keeping) → KeepersAnswer (run_with plan (opening plan) events) e keeping → is_enabled plan (run_with plan (opening plan) events) e ≡ true → suc (work_left plan (happens_with plan keeping (run_with plan (opening plan) events) e)) ≤ work_left plan (run_with plan (opening plan) events) }
-    ensures quiet { (plan : PlanView) (events : List KeptEvent) → IsPlan plan → IsRunWith plan (opening plan) events → is_quiet plan (run_with plan (opening plan) events) ≡ is_finished plan (run_with plan (opening plan) events) }
+    ensures lowers { (plan : PlanView) (events : List KeptEvent) → IsPlan plan → IsRunWith plan 0 (opening plan) events → (e : Event) (keeping : Keeping) → AnswersInKind (run_with plan (opening plan) events) e keeping → is_enabled plan (run_with plan (opening plan) events) e ≡ true → suc (work_left plan (happens_with plan keeping (run_with plan (opening plan) events) e)) ≤ work_left plan (run_with plan (opening plan) events) }
+    ensures quiet { (plan : PlanView) (events : List KeptEvent) → IsPlan plan → IsRunWith plan 0 (opening plan) events → is_quiet plan (run_with plan (opening plan) events) ≡ is_finished plan (run_with plan (opening plan) events) }
 {}

@@ -14,7 +14,7 @@ use Rattle.far_base.specs.declared.plan.Config.{Config}
 use Rattle.far_base.specs.declared.slot_state.SlotState.TheVariants.{Admitting}
 use Rattle.far_model.specs.Events.{switch_turn}
 use Rattle.far_model.specs.Evictions.{state_at}
-use Rattle.far_model.specs.Invariants.{IsSlotOf, FitsState, IsGiven, is_admission_of, admits_under, admission_count}
+use Rattle.far_invariants.specs.Invariants.{IsSlotOf, FitsState, IsGiven, is_admission_of, admits_under, admission_count}
 use Rattle.far_model.specs.Members.{Among}
 use Rattle.far_model.specs.Pass.{admits, dropped, is_slot_there, sent_to}
 use Rattle.far_model.specs.State.{State}

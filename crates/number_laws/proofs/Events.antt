@@ -24,7 +24,7 @@ use Rattle.far_model.specs.Controller.{ControllerState, drop_want_if, evict_held
 use Rattle.far_model.specs.Events.{Keeping, can_deliver, can_deliver_some, controller_turn, delivers, does_order, handled, happens, is_enabled, is_order_due, is_order_enabled, keeping_of, reply_at, reply_to, all_listed, restarts, server_turn, ticks}
 use Rattle.far_model.specs.Evictions.{Eviction, TRIES, after_removal, first_place, hand_after, has_key, holds_key, is_free, shown_item, state_at, victim, waits_for}
 use Rattle.far_model.specs.Evictions.Next.{Store as StoreNext, Done, Kept}
-use Rattle.far_model.specs.Flights.{is_operation, subject}
+use Rattle.far_invariants.specs.Flights.{is_operation, subject}
 use Rattle.far_model.specs.Parties.{Turn, idle}
 use Rattle.far_model.specs.Rounds.{Round}
 use Rattle.far_model.specs.State.{State}
@@ -113,7 +113,7 @@ module _ (plan : PlanView) (s : State) (h : Numbers plan s) (need : Needs plan s
   operation from to p at can is = delivered_keeps plan s h.keeps need.one need.routed i records (record { from = from; to = to; packet = p }) at can is
 
   -- where it goes
-  goes : (from to : Party) (p : Packet) → slice_get s.bag i ≡ Some (record { from = from; to = to; packet = p }) → Rattle.far_model.specs.Flights.IsFor plan.config p to
+  goes : (from to : Party) (p : Packet) → slice_get s.bag i ≡ Some (record { from = from; to = to; packet = p }) → Rattle.far_invariants.specs.Flights.IsFor plan.config p to
   goes from to p at = (need.routed.messages _ (among_at _ s.bag i at)).target
 
   -- a turn of the controller that changes no slot's state
@@ -169,7 +169,7 @@ module _ (plan : PlanView) (s : State) (h : Numbers plan s) (need : Needs plan s
     running = λ e. e;
     config = refl;
     counter = omega arith;
-    servers = length-set s.servers (server_of plan.config item.key) (Rattle.far_model.specs.Servers.kept (Rattle.far_model.specs.State.records_at s (server_of plan.config item.key)) item);
+    servers = length-set s.servers (server_of plan.config item.key) (Rattle.far_model.specs.Servers.stored (Rattle.far_model.specs.State.records_at s (server_of plan.config item.key)) item);
     more = more_at plan s h.keeps.some_server h.keeps.servers item t refl;
     written = written_at plan s h.keeps.some_server h.keeps.servers item t refl h.keeps.records (need.evictions.packets _ (among_at _ s.bag i at)).written;
     waits = λ c. refl;

@@ -23,7 +23,7 @@ use Rattle.far_model.specs.Controller.{ControllerState, drop_want_if, evict_held
 use Rattle.far_model.specs.Events.{Keeping, can_deliver, can_deliver_some, can_recover, controller_turn, delivers, does_order, handled, is_enabled, is_order_due, is_order_enabled, is_switch, restarts, ticks}
 use Rattle.far_model.specs.Evictions.{Eviction, TRIES, after_removal, first_place, hand_after, has_key, holds_key, is_free, is_held, key_in, shown_item, state_at, tag_in, victim, waits_for}
 use Rattle.far_model.specs.Evictions.Next.{Store as StoreNext, Done, Kept}
-use Rattle.far_model.specs.Invariants.{FitsState, IsGiven, admission_count}
+use Rattle.far_invariants.specs.Invariants.{FitsState, IsGiven, admission_count}
 use Rattle.far_model.specs.Members.{Among}
 use Rattle.far_model.specs.Parties.{Turn, idle, messages_from}
 use Rattle.far_model.specs.Pass.{pass}
@@ -49,7 +49,7 @@ use Rattle.number_laws.proofs.Controlling.{ack_sits, state_moves, want_sits}
 use Rattle.number_laws.proofs.Moving.{client_sits, not_admission, pass_sits, passes_sit, send_sits, server_sits}
 use Rattle.number_laws.proofs.Admitting.{admit_sits}
 use Rattle.number_laws.proofs.Emptying.{remove_sits}
-use Rattle.far_model.specs.Replies.{KeepersAnswer, RepliesAt, RepliesToMessage}
+use Rattle.far_model.specs.Replies.{RepliesAt, RepliesToMessage, AnswersInKind}
 use Rattle.far_model.specs.Events.{happens_with}
 use Rattle.number_laws.proofs.Stopping.{recover_sits, restart_sits, stop_sits}
 use Rattle.number_laws.proofs.Turning.{IsStill, calm_still, idle_still, peek_still, still_sits, stored_still, store_still, told_still, top_still}
@@ -153,7 +153,7 @@ module _ (plan : PlanView) {c : Content} (s : State) (h : Seated plan s) (need :
   abbrev rest : List Message
   rest = remove s.bag i
 
-  goes : (from to : Party) (p : Packet) → slice_get s.bag i ≡ Some (record { from = from; to = to; packet = p }) → Rattle.far_model.specs.Flights.IsFor plan.config p to
+  goes : (from to : Party) (p : Packet) → slice_get s.bag i ≡ Some (record { from = from; to = to; packet = p }) → Rattle.far_invariants.specs.Flights.IsFor plan.config p to
   goes from to p at = (need.routed.messages _ (among_at _ s.bag i at)).target
 
   still : (from to : Party) (p : Packet) (turn : Turn ControllerState) → slice_get s.bag i ≡ Some (record { from = from; to = to; packet = p }) → is_admission_packet p ≡ false → IsStill s.controller turn → Seated plan (controller_turn s rest turn)
@@ -271,7 +271,7 @@ module _ (plan : PlanView) {c : Content} (s : State) (h : Seated plan s) (need :
       busy (Some r) e = ap is_some e
 
 -- slots and admissions stand after every event, whatever keepers answer in kind
-pub event_seated : (plan : PlanView) {c : Content} (k : Keeping) (s : State) (e : Event) → SeatNeeds plan c s → Seated plan s → KeepersAnswer s e k → is_enabled plan s e ≡ true → Seated plan (happens_with plan k s e)
+pub event_seated : (plan : PlanView) {c : Content} (k : Keeping) (s : State) (e : Event) → SeatNeeds plan c s → Seated plan s → AnswersInKind s e k → is_enabled plan s e ≡ true → Seated plan (happens_with plan k s e)
 event_seated plan k s (Send d) need h answers can = send_sits plan s h d
 event_seated plan k s (Deliver i) need h answers can = delivery_seated plan s h need i k (slice_get s.bag i) refl can answers
 event_seated plan k s Tick need h answers can = tick_seated plan s h need (tick s.controller) refl can

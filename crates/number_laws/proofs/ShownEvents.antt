@@ -25,7 +25,7 @@ use Rattle.far_model.specs.Controller.{ControllerState, acked_state, controller_
 use Rattle.far_model.specs.Events.{Keeping, can_deliver_some, controller_turn, delivers, does_order, handled, happens, is_enabled, is_order_due, keeping_of, next_sent, recovery_items, reply_message, reply_at, reply_to, all_listed, restarts, sends, stops, ticks}
 use Rattle.far_model.specs.Evictions.{Eviction, TRIES, after_removal, first_place, hand_after, has_key, holds_key, is_admitting, is_free, key_in, shown_item, state_at, victim, waits_for}
 use Rattle.far_model.specs.Evictions.Next.{Store as StoreNext, Done, Kept}
-use Rattle.far_model.specs.Invariants.{IsWritten, slot_if}
+use Rattle.far_invariants.specs.Invariants.{IsWritten, slot_if}
 use Rattle.far_model.specs.Log.{is_read}
 use Rattle.far_model.specs.Members.{Among, Each}
 use Rattle.far_model.specs.Parties.{Turn, idle, messages_from}

@@ -17,10 +17,10 @@ use Rattle.far_base.specs.declared.slot_state.SlotState.TheVariants.{Free, Admit
 use Rattle.far_model.specs.Controller.{ControllerState, start_recovery, stores_of, snapshot_stores, to_clients}
 use Rattle.far_model.specs.Events.{Keeping, controller_turn, is_switch, recovery_items, restarts, stops}
 use Rattle.far_model.specs.Evictions.{state_at}
-use Rattle.far_model.specs.Flights.{IsFrom, IsRouted}
+use Rattle.far_invariants.specs.Flights.{IsFrom, IsRouted}
 use Rattle.far_model.specs.Parties.{Turn, messages_from}
 use Rattle.far_base.specs.declared.plan.Config.{Config}
-use Rattle.far_model.specs.Invariants.{FitsState, IsGiven, ShowsAtMost, look, entry, slot_if, reach, is_admission_of, admits_under, admission_count}
+use Rattle.far_invariants.specs.Invariants.{FitsState, IsGiven, look, entry, slot_if, reach, is_admission_of, admits_under, admission_count, ExposedAtMost}
 use Rattle.far_model.specs.Members.{Among, Each}
 use Rattle.far_model.specs.State.{State, line_at, now}
 use Rattle.far_model.specs.View.{SlotView, SwitchView, slot_at, empty_slot, bound_place, entry_if, opening_view}
@@ -42,7 +42,7 @@ recounted t running counter = record t { running = running; switch = record t.sw
 
 pub recount_keeps : (plan : PlanView) (t : State) (running : Bool) (counter : ℕ) → Keeps plan t
     → (running ≡ true → (at op num : ℕ) → Among (line_at at (Numbered op num)) t.log → num ≤ counter)
-    → (running ≡ true → (key : List ℕ) → ShowsAtMost plan t.log key (reach plan t key))
+    → (running ≡ true → (key : List ℕ) → ExposedAtMost plan t.log key (reach plan t key))
     → Keeps plan (recounted t running counter)
 recount_keeps plan t running counter k counts covers = record {
   some_server = k.some_server;
@@ -232,10 +232,10 @@ module _ (plan : PlanView) (s : State) (k : Keeping) (counter : ℕ) where
       own at op num (inl a) = found.own at op num a
       own at op num (inr n) = absurd (subst IsControlNote (sym (ap (λ (w : LogLine). w.entry) n.is)) (each_among IsControlNote n.entry notes controls n.among))
 
-      shown : (key : List ℕ) → ShowsAtMost plan waking.log key (reach plan waking key)
+      shown : (key : List ℕ) → ExposedAtMost plan waking.log key (reach plan waking key)
       shown key =
-          let none : reach plan waking key ≡ (look plan s key).num = ap (Rattle.far_model.specs.Invariants.reach_by (look plan s key).num) (bare_entry plan (s.controller.epoch + 1) s.switch.counter key) in
-          subst (ShowsAtMost plan waking.log key) (sym none) (shown_lasts s waking notes refl plan key (look plan s key).num (found.shown key) (off_shows_each plan key (look plan s key).num notes (each_to IsControlNote (NotOn plan key) notes (note_off plan key) controls)))
+          let none : reach plan waking key ≡ (look plan s key).num = ap (Rattle.far_invariants.specs.Invariants.reach_by (look plan s key).num) (bare_entry plan (s.controller.epoch + 1) s.switch.counter key) in
+          subst (ExposedAtMost plan waking.log key) (sym none) (shown_lasts s waking notes refl plan key (look plan s key).num (found.shown key) (off_shows_each plan key (look plan s key).num notes (each_to IsControlNote (NotOn plan key) notes (note_off plan key) controls)))
 
   module _ (free : (i : ℕ) → state_at s.controller.slots i ≡ Free) (h : Seated plan s) where
     admission_ages : (p : Packet) → AdmissionStands s p → AdmissionStands restart p

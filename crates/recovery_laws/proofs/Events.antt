@@ -16,14 +16,14 @@ use Rattle.far_base.specs.declared.plan.Order.TheVariants.{Admit as AdmitOrder, 
 use Rattle.far_base.specs.declared.record.Record.{Record}
 use Rattle.far_base.specs.declared.log.LogEntry.TheVariants.{Stopped}
 use Rattle.far_model.specs.Controller.{ControllerState, tick, wanted, evict_key, start_snapshot, start_recovery, ready, ready_in, client_told, store_answered, top_told, peek_answered, removal_answered, acknowledged, snapshot_begun, part_came, same_came}
-use Rattle.far_model.specs.Events.{Keeping, can_deliver, can_recover, choices, client_turn, controller_turn, delivers, does_order, handled, happens, happens_with, is_enabled, is_none_left, is_order_due, is_order_enabled, is_possible, is_switch, keeping_of, recovers, reply_at, reply_in, reply_to, restarts, sends, server_turn, stops, switch_turn, ticks, all_listed}
-use Rattle.far_model.specs.Invariants.{look}
+use Rattle.far_model.specs.Events.{Keeping, can_deliver, can_recover, choices, client_turn, controller_turn, delivers, does_order, handled, happens, happens_with, is_enabled, is_order_due, is_order_enabled, is_possible, is_switch, keeping_of, recovers, reply_at, reply_in, reply_to, restarts, sends, server_turn, stops, switch_turn, ticks, all_listed}
+use Rattle.far_invariants.specs.Invariants.{look}
 use Rattle.far_model.specs.KeyedRecords.{found}
 use Rattle.far_model.specs.Kept.{kept_records, records_in}
-use Rattle.far_model.specs.Members.{Among}
+use Rattle.far_model.specs.Members.{Among, is_empty}
 use Rattle.far_model.specs.Parties.{Turn, idle, messages_from}
 use Rattle.far_model.specs.Pass.{pass, passed_out, pass_notes}
-use Rattle.far_model.specs.Past.{Past, remembers}
+use Rattle.far_invariants.specs.Past.{Past, remembers}
 use Rattle.far_model.specs.Rounds.{Round, ready_counter}
 use Rattle.far_model.specs.Servers.{get_reply, write_reply, record_of, server_keeps, server_reply, top_of}
 use Rattle.far_model.specs.Passes.{pass_count}
@@ -81,7 +81,7 @@ module _ (plan : PlanView) (kept : List Record) (s : State) (i : ℕ) (stops_s :
         stops_step plan kept kept (Its x) s t (remove s.bag i) new stops_s (calm_step plan kept (Its x) (pass_notes p (pass s.switch p)) s t (remove s.bag i) new stops_s
         (pass_calm plan kept s i x p (pass s.switch p) at (subst IsLight (sym is) light) runs stops_s calm)) (running_round runs t refl)
 
-    at_controller : (t : Turn ControllerState) → IsLight x.packet → IsRule (IsGenuine plan s) s.controller t → ((key : List ℕ) (num : ℕ) → Rattle.recovery_laws.specs.Needs.IsAbsorbedOn plan s.log key num → Rattle.far_model.specs.Kept.IsInSnapshot s key num → Rattle.far_model.specs.Kept.IsAtServer plan s key num ⊎ Rattle.far_model.specs.Kept.Covers (Rattle.far_model.specs.Snapshots.view_records t.state.last.views) key num)
+    at_controller : (t : Turn ControllerState) → IsLight x.packet → IsRule (IsGenuine plan s) s.controller t → ((key : List ℕ) (num : ℕ) → Rattle.recovery_laws.specs.Needs.IsAbsorbedOn plan s.log key num → Rattle.far_invariants.specs.Covers.IsInSnapshot s key num → Rattle.far_invariants.specs.Covers.IsAtServer plan s key num ⊎ Rattle.far_invariants.specs.Covers.Covers (Rattle.far_model.specs.Snapshots.view_records t.state.last.views) key num)
         → RoundGoesOn plan kept (controller_turn s (remove s.bag i) t) → Stops plan kept (controller_turn s (remove s.bag i) t)
     at_controller t light rule snapshot round =
         stops_step plan kept kept (Its x) s (controller_turn s (remove s.bag i) t) (remove s.bag i) (messages_from Controller t.out) stops_s
@@ -178,7 +178,7 @@ module _ (plan : PlanView) (kept : List Record) (s : State) (i : ℕ) (stops_s :
       let n : ℕ = server_of plan.config key in
       let asked : IsAskedWell plan s (WriteFwd caller op key num body) = needs.owed.asked _ (among_at _ s.bag i at) in
       moved to (WriteFwd caller op key num body) (Server n) travels.target (stops_step plan kept kept (Its x) s _ (remove s.bag i) _ stops_s
-      (calm_step plan kept (Its x) [] s _ (remove s.bag i) _ stops_s (given_calm plan kept s i x at stops_s needs r (WriteFwd caller op key num body) (write_reply caller op key (found (Rattle.far_model.specs.Servers.kept (records_at s n) (record_of key num body)) key)) refl
+      (calm_step plan kept (Its x) [] s _ (remove s.bag i) _ stops_s (given_calm plan kept s i x at stops_s needs r (WriteFwd caller op key num body) (write_reply caller op key (found (Rattle.far_model.specs.Servers.stored (records_at s n) (record_of key num body)) key)) refl
       (λ m g t h. subst (λ (w : Message). HasArrived plan s t w.packet) (sym g) (subst (λ q. num ≤ (look plan t q).num) (sym asked) h)) tt tt tt)) (switch_round x at travels.source _ refl))
   delivered from to (Store job item) at can =
       let travels = needs.routed.messages _ (among_at _ s.bag i at) in
@@ -317,20 +317,20 @@ none_of (Some x) h = absurd cc
 ordered : (plan : PlanView) (kept : List Record) (s : State) (d : ℕ) → Stops plan kept s → (o : Option Order) → is_order_due s o ≡ true → Stops plan kept (record (does_order plan s o) { done = d })
 ordered plan kept s d h None due = absurd cc
 ordered plan kept s d h (Some (AdmitOrder step key)) due =
-    let possible = (and_parts (not (is_some s.controller.round)) (nat_le step s.steps || is_none_left (choices s)) due).0 in
+    let possible = (and_parts (not (is_some s.controller.round)) (nat_le step s.steps || is_empty (choices s)) due).0 in
     calm_rule_step plan kept s (idle (wanted key s.controller)) d h (none_of s.controller.round possible) (wanted_calm (IsGenuine plan s) plan.config s.controller key)
 ordered plan kept s d h (Some (EvictOrder step key)) due =
-    let possible = (and_parts (s.running && (not (is_some s.controller.eviction) && not (is_some s.controller.round))) (nat_le step s.steps || is_none_left (choices s)) due).0 in
+    let possible = (and_parts (s.running && (not (is_some s.controller.eviction) && not (is_some s.controller.round))) (nat_le step s.steps || is_empty (choices s)) due).0 in
     let rest = (and_parts s.running (not (is_some s.controller.eviction) && not (is_some s.controller.round)) possible).1 in
     calm_rule_step plan kept s (evict_key key s.controller) d h (none_of s.controller.round (and_parts (not (is_some s.controller.eviction)) (not (is_some s.controller.round)) rest).1) (evict_calm (IsGenuine plan s) plan.config s.controller key)
 ordered plan kept s d h (Some (SnapOrder step)) due =
-    let possible = (and_parts (s.running && (not (is_some s.controller.job) && not (is_some s.controller.round))) (nat_le step s.steps || is_none_left (choices s)) due).0 in
+    let possible = (and_parts (s.running && (not (is_some s.controller.job) && not (is_some s.controller.round))) (nat_le step s.steps || is_empty (choices s)) due).0 in
     let rest = (and_parts s.running (not (is_some s.controller.job) && not (is_some s.controller.round)) possible).1 in
     calm_rule_step plan kept s (start_snapshot s.controller) d h (none_of s.controller.round (and_parts (not (is_some s.controller.job)) (not (is_some s.controller.round)) rest).1) (snapshot_calm (IsGenuine plan s) plan.config s.controller)
 ordered plan kept s d h (Some (StopOrder step)) due =
-    stopped plan kept s d h (and_parts s.running (nat_le step s.steps || is_none_left (choices s)) due).0
+    stopped plan kept s d h (and_parts s.running (nat_le step s.steps || is_empty (choices s)) due).0
 ordered plan kept s d h (Some (StopAtOrder kind times)) due =
-    stopped plan kept s d h (and_parts s.running (nat_le times (pass_count s.passes kind) || is_none_left (choices s)) due).0
+    stopped plan kept s d h (and_parts s.running (nat_le times (pass_count s.passes kind) || is_empty (choices s)) due).0
 
 -- ---- a restart
 

@@ -15,7 +15,7 @@ use Rattle.far_base.specs.declared.record.Record.{Record}
 use Rattle.far_model.specs.Clients.{line_of}
 use Rattle.far_model.specs.Controller.{ControllerState}
 use Rattle.far_model.specs.Events.{switch_turn}
-use Rattle.far_model.specs.Invariants.{IsWritten, NumbersDiffer}
+use Rattle.far_invariants.specs.Invariants.{IsWritten, NumbersDiffer}
 use Rattle.far_model.specs.Members.{Among, Each}
 use Rattle.far_model.specs.Parties.{messages_from}
 use Rattle.far_model.specs.Pass.{Passed, pass, passed_out, outs_of, dropped, sent_to, told_hot, grows_hot, hot_cell, part_of, is_as_before, part_left, with_slot, with_taken, changed_view, changes, read_passes, absorbing, write_passes, numbered, takes_reply, raised, reply_passes, is_slot_there, admits, admitted, is_under, peeks, may_go, removed_answer, removes, starts_snapshot, reads_part, pass_notes, numbered_note, emitted_note}

@@ -18,7 +18,7 @@ use Rattle.far_base.specs.declared.slot_state.Due.TheVariants.{Peeked, Removed}
 use Rattle.far_model.specs.Controller.{ControllerState, with_state, to_clients, to_servers, wanted, first_want_dropped, admits_want, evicts, makes_room, tick_room, tick_free, tick_want, tick_wants, tick, evict_held, evict_key, acked_state, acknowledged, drop_want_if, evicts_on, peek_answered, removal_answered, start_snapshot, completes, job_turn, snapshot_begun, part_came, same_part, same_came, is_last_present, stores_of, snapshot_stores, start_recovery, store_outs, round_turn, told_round, client_told, round_stored, store_answered, top_told}
 use Rattle.far_model.specs.Events.{controller_turn}
 use Rattle.far_model.specs.Evictions.{Eviction, Send, Store as StoreNext, Done, Kept, TRIES, after_peek, after_removal, after_store, first_place, has_key, hand_after, holds_key, is_free, is_admitting, key_in, removing, shown_item, state_at, victim, waits_for, waits_job}
-use Rattle.far_model.specs.Kept.{IsAtServer, Covers, IsInSnapshot}
+use Rattle.far_invariants.specs.Covers.{IsAtServer, Covers, IsInSnapshot}
 use Rattle.far_model.specs.Members.{Among, Each}
 use Rattle.far_model.specs.Parties.{Turn, idle, messages_from, to_party}
 use Rattle.far_model.specs.Rounds.{Round, has_told, asks_tops, telling_at}

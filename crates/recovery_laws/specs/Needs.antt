@@ -10,9 +10,9 @@ use Rattle.far_base.specs.declared.record.Record.{Record}
 use Rattle.far_base.specs.declared.slot_state.Due.TheVariants.{Peeked, Removed}
 use Rattle.far_model.specs.Clients.{line_of}
 use Rattle.far_model.specs.Evictions.{Eviction, waits_for, shown_item}
-use Rattle.far_model.specs.Flights.{IsRouted, OneFlightPerOperation}
-use Rattle.far_model.specs.Invariants.{IsAbsorbed, IsWritten}
-use Rattle.far_model.specs.Kept.{IsAtServer, Covers, IsInSnapshot}
+use Rattle.far_invariants.specs.Flights.{IsRouted, OneFlightPerOperation}
+use Rattle.far_invariants.specs.Invariants.{IsAbsorbed, IsWritten}
+use Rattle.far_invariants.specs.Covers.{IsAtServer, Covers, IsInSnapshot}
 use Rattle.far_model.specs.Members.{Among}
 use Rattle.far_model.specs.Snapshots.{Job, SnapshotView, has_begun, has_part, is_whole, completed, view_records, with_part, with_same}
 use Rattle.far_model.specs.State.{State, client_at, records_at, line_at}

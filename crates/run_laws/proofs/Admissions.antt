@@ -15,7 +15,7 @@ use Rattle.far_base.specs.declared.slot_state.SlotState.TheVariants.{Free, Admit
 use Rattle.far_model.specs.Controller.{admits_want}
 use Rattle.far_model.specs.Events.{controller_turn}
 use Rattle.far_model.specs.Evictions.{state_at, is_free, has_key, first_place}
-use Rattle.far_model.specs.Invariants.{FitsState, IsGiven, AdmissionIs, is_admission_of, admits_under, admission_count}
+use Rattle.far_invariants.specs.Invariants.{FitsState, IsGiven, AdmissionIs, is_admission_of, admits_under, admission_count}
 use Rattle.far_model.specs.Log.{same_key}
 use Rattle.far_model.specs.Members.{Among}
 use Rattle.far_model.specs.State.{State}

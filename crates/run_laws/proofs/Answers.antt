@@ -1,4 +1,5 @@
 -- Replies of servers at the switch: the answer leaves, and the key's slot may take the record.
+use Rattle.far_model.specs.Coherent.{ReachesOwnNumber}
 use Rattle.std.proofs.Common.{◌≡◌, ◌≢◌, ℕ, ◌<◌, ◌≤◌, max, ◌⊎◌, inl, inr, Bool, true, false, List, [], ◌∷◌, refl, sym, ap, ◌∙◌, subst, arith, ltb-true, ltb-false}
 use Rattle.std.specs.Prelude.{Option, Some, None, if◌then◌else◌, ◌&&◌, nat_lt, nat_le, nat_eq}
 use Rattle.std.proofs.lemmas.Option.{same_Some}
@@ -11,8 +12,7 @@ use Rattle.far_base.specs.declared.packet.Out.{Out}
 use Rattle.far_base.specs.declared.packet.Packet.{Packet}
 use Rattle.far_base.specs.declared.party.Party.TheVariants.{Client}
 use Rattle.far_model.specs.Clients.{line_of}
-use Rattle.far_model.specs.Coherent.{HasOwnNumber}
-use Rattle.far_model.specs.Invariants.{ShowsAtMost, ShowsAtMostBy, look, entry, slot_if, reach, IsWritten, WouldBeCurrent}
+use Rattle.far_invariants.specs.Invariants.{look, entry, slot_if, reach, IsWritten, WouldBeCurrent, ExposedAtMostBy, ExposedAtMost}
 use Rattle.far_model.specs.Log.{is_read}
 use Rattle.far_model.specs.Members.{Each}
 use Rattle.far_model.specs.Pass.{Passed, sent_to, reply_passes, is_tag, takes_reply, absorbing, raised, with_slot, with_taken, part_of}
@@ -31,8 +31,8 @@ pub record ReplyIs (plan : PlanView) (s : State) (caller op : ℕ) (key : List �
   pub known : num ≤ (look plan s key).num
   pub written : IsWritten plan s.log s.steps key num body
   pub same : is_read (line_of plan.ops op).op ≡ true → shown ≡ body
-  pub floor : is_read (line_of plan.ops op).op ≡ true → ShowsAtMostBy plan s.log key serves.sent.sent_at num
-  pub own : is_read (line_of plan.ops op).op ≡ false → HasOwnNumber s.log s.steps op num
+  pub floor : is_read (line_of plan.ops op).op ≡ true → ExposedAtMostBy plan s.log key serves.sent.sent_at num
+  pub own : is_read (line_of plan.ops op).op ≡ false → ReachesOwnNumber s.log s.steps op num
   pub tagged : (own : ℕ) → tag ≡ Some own → WouldBeCurrent plan s key own num
 
 pub read_reply : (plan : PlanView) (s : State) (caller op : ℕ) (key : List ℕ) (tag num : ℕ) (body : Option (List ℕ)) → ReadIsReplied plan s caller op key tag num body → ReplyIs plan s caller op key (Some tag) num body body
@@ -120,7 +120,7 @@ module _ (plan : PlanView) (s : State) (k : Keeps plan s) (runs : s.running ≡ 
   off other ne = (λ q. ne (sym q ∙ h.serves.on_key), tt)
 
   -- what is exposed once the answer has left
-  exposes : (n : ℕ) → ShowsAtMost plan s.log key n → num ≤ n → ShowsAtMost plan (noted s note) key n
+  exposes : (n : ℕ) → ExposedAtMost plan s.log key n → num ≤ n → ExposedAtMost plan (noted s note) key n
   exposes n before b = shown_lasts s (stepped s [] note) note refl plan key n before (λ q. b, tt)
 
   none_passes : entry key s.switch ≡ None → PassesFor plan s s.switch note key
@@ -129,7 +129,7 @@ module _ (plan : PlanView) (s : State) (k : Keeps plan s) (runs : s.running ≡ 
     counter = omega arith;
     others = λ other ne. refl;
     not_on = off;
-    covers = λ r. subst (λ n. ShowsAtMost plan (noted s note) key n) (sym reaches) (exposes (look plan s key).num (subst (λ n. ShowsAtMost plan s.log key n) reaches (k.covers r key)) h.known);
+    covers = λ r. subst (λ n. ExposedAtMost plan (noted s note) key n) (sym reaches) (exposes (look plan s key).num (subst (λ n. ExposedAtMost plan s.log key n) reaches (k.covers r key)) h.known);
     drawn = λ slot is'. (k.slots key slot is').drawn;
     written = λ slot is' l. written_still plan s note key slot.num slot.body ((k.slots key slot is').written l);
     current = λ tag n m c b slot is' old under. absurd (let e = sym is ∙ is' in cc);
@@ -149,11 +149,11 @@ module _ (plan : PlanView) (s : State) (k : Keeps plan s) (runs : s.running ≡ 
       here : entry key s.switch ≡ Some (slot_at s.switch i)
       here = ap (slot_if s.switch) e
 
-      before : s.running ≡ true → IsNewer num (slot_at s.switch i) ⊎ IsUnderTag tag num (slot_at s.switch i) → ShowsAtMost plan s.log key num
+      before : s.running ≡ true → IsNewer num (slot_at s.switch i) ⊎ IsUnderTag tag num (slot_at s.switch i) → ExposedAtMost plan s.log key num
       before r (inl n) =
           let newer = n.newer in
           shown_within plan s.log key (slot_at s.switch i).num num
-          (subst (λ n. ShowsAtMost plan s.log key n) (reach_latest (look plan s key).num (entry key s.switch) (slot_at s.switch i) here n.latest) (k.covers r key)) (omega (arith, newer))
+          (subst (λ n. ExposedAtMost plan s.log key n) (reach_latest (look plan s key).num (entry key s.switch) (slot_at s.switch i) here n.latest) (k.covers r key)) (omega (arith, newer))
       before r (inr u) =
           let no_older = u.no_older in
           shown_within plan s.log key (max num (slot_at s.switch i).num) num (h.tagged (slot_at s.switch i).tag u.under (slot_at s.switch i) here u.old refl) (omega (arith, no_older))
@@ -174,7 +174,7 @@ module _ (plan : PlanView) (s : State) (k : Keeps plan s) (runs : s.running ≡ 
           let reaches = reach_latest (look plan s key).num (Some (slot_at s.switch i)) (slot_at s.switch i) refl l in
           let reached = reach_latest (look plan s key).num (entry key s.switch) (slot_at s.switch i) here l in
           set_passes plan s s.switch _ note key i (slot_at s.switch i) refl (omega arith) (λ other. refl) (with_slot_sets s.switch i (slot_at s.switch i) is.within) is is.owned off
-          (λ r. subst (λ n. ShowsAtMost plan (noted s note) key n) (sym reaches) (exposes (slot_at s.switch i).num (subst (λ n. ShowsAtMost plan s.log key n) reached (k.covers r key)) as_new))
+          (λ r. subst (λ n. ExposedAtMost plan (noted s note) key n) (sym reaches) (exposes (slot_at s.switch i).num (subst (λ n. ExposedAtMost plan s.log key n) reached (k.covers r key)) as_new))
           (k.slots key (slot_at s.switch i) here).drawn
           (λ l'. written_still plan s note key _ _ ((k.slots key (slot_at s.switch i) here).written l'))
           (λ t n m c b old under. absurd (let e = sym l ∙ old in cc))
@@ -183,7 +183,7 @@ module _ (plan : PlanView) (s : State) (k : Keeps plan s) (runs : s.running ≡ 
           let reached = reach_outdated (look plan s key).num (entry key s.switch) (slot_at s.switch i) here l in
           let reaches = reach_outdated (look plan s key).num (Some slot) slot refl l in
           set_passes plan s s.switch _ note key i slot refl (omega arith) (λ other. refl) (with_slot_sets s.switch i slot is.within) is is.owned off
-          (λ r. subst (λ n. ShowsAtMost plan (noted s note) key n) (sym reaches) (exposes (look plan s key).num (subst (λ n. ShowsAtMost plan s.log key n) reached (k.covers r key)) h.known))
+          (λ r. subst (λ n. ExposedAtMost plan (noted s note) key n) (sym reaches) (exposes (look plan s key).num (subst (λ n. ExposedAtMost plan s.log key n) reached (k.covers r key)) h.known))
           (k.slots key (slot_at s.switch i) here).drawn
           (λ l'. absurd (let e = sym l ∙ l' in cc))
           (λ t n m c b old under. exposes (max m (max (slot_at s.switch i).num num)) (shown_within plan s.log key (max n (slot_at s.switch i).num) (max m (max (slot_at s.switch i).num num)) (c (slot_at s.switch i) here l under) (omega (arith, b))) (omega arith))

@@ -17,7 +17,7 @@ use Rattle.far_base.specs.declared.slot_state.SlotState.TheVariants.{Free, Admit
 use Rattle.far_model.specs.Controller.{acknowledged, acked_state, with_state}
 use Rattle.far_model.specs.Events.{controller_turn, switch_turn}
 use Rattle.far_model.specs.Evictions.{state_at, is_admitting, key_in}
-use Rattle.far_model.specs.Invariants.{entry, slot_if, reach_by, IsSlotOf, FitsState, IsGiven, AdmissionIs, is_admission_of, admits_under, admission_count}
+use Rattle.far_invariants.specs.Invariants.{entry, slot_if, reach_by, IsSlotOf, FitsState, IsGiven, AdmissionIs, is_admission_of, admits_under, admission_count}
 use Rattle.far_model.specs.Members.{Among}
 use Rattle.far_model.specs.Parties.{idle}
 use Rattle.far_model.specs.Pass.{admits, dropped, is_slot_there, sent_to}

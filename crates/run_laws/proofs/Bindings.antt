@@ -5,7 +5,7 @@ use Rattle.std.proofs.lemmas.Option.{same_Some}
 use Rattle.std.proofs.lemmas.List.{get_or-set_same, get_or-set_other}
 use Rattle.far_model.specs.View.{SlotView, SwitchView, slot_at, empty_slot, is_key_there, next_place, bound_place, unbound, is_slot_of, entry_if, entry_place}
 use Rattle.far_model.specs.Pass.{admits, admitted}
-use Rattle.far_model.specs.Invariants.{entry, slot_if}
+use Rattle.far_invariants.specs.Invariants.{entry, slot_if}
 use Rattle.run_laws.proofs.Slots.{same_key_refl, there_is, bound_there, both, IsEntry, entry_is}
 use Rattle.run_laws.proofs.Stored.{same_key_false}
 

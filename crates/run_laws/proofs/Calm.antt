@@ -7,7 +7,7 @@ use Rattle.far_base.specs.declared.log.LogEntry.{LogEntry}
 use Rattle.far_base.specs.declared.packet.Message.{Message}
 use Rattle.far_base.specs.declared.packet.Packet.{Packet}
 use Rattle.far_base.specs.declared.packet.Packet.TheVariants.{GetReq, WriteReq, GetFwd, WriteFwd, GetRep, WriteRep, GetAns, WriteAns, Hot, Admit, AdmitAck, SnapStart, SnapBegun, SnapRead, SnapPart, Release, Ask, Told, TopAsk, TopIs, SnapSame, SnapFrom}
-use Rattle.far_model.specs.Invariants.{entry}
+use Rattle.far_invariants.specs.Invariants.{entry}
 use Rattle.far_model.specs.Members.{Among, Each}
 use Rattle.far_model.specs.State.{State, client_at, now, noted}
 use Rattle.far_model.proofs.Members.{among_append, among_remove}

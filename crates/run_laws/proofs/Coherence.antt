@@ -9,8 +9,8 @@ use Rattle.far_base.specs.declared.log.LogLine.{LogLine}
 use Rattle.far_base.specs.declared.plan.OpLine.{OpLine}
 use Rattle.far_model.specs.Clients.{line_of}
 use Rattle.far_model.specs.Coherent.{Stands, IsCoherent, WasWritten, IsEmission}
-use Rattle.far_model.specs.Invariants.{ShowsAtMostBy, IsNumberOf}
-use Rattle.far_model.specs.Log.{At, first_told, or_later, sent_by, sending, sent_on, is_on, number_shown, greatest_shown, exposed}
+use Rattle.far_invariants.specs.Invariants.{IsNumberOf, ExposedAtMostBy}
+use Rattle.far_model.specs.Log.{At, first_told, or_later, sent_by, sending, sent_on, is_on, exposed, number_exposed, greatest_exposed}
 use Rattle.far_model.specs.Members.{Among}
 use Rattle.far_model.specs.State.{State, line_at}
 use Rattle.run_laws.proofs.Keeps.{LineStands, AnswerStands, Keeps}
@@ -50,21 +50,21 @@ on_sent log key op h = go (sending log op) refl h
     go None e k = absurd cc
     go (Some s) e k = record { sent_at = s.moment; line = s.what; sent = sending_line op log s e; on_key = same_key_true key s.what.key k }
 
-shown_most : (on : ℕ → Bool) (moment n : ℕ) (log : List LogLine) → ((l : LogLine) → Among l log → l.moment ≤ moment → number_shown on l.entry ≤ n) → greatest_shown on moment log ≤ n
+shown_most : (on : ℕ → Bool) (moment n : ℕ) (log : List LogLine) → ((l : LogLine) → Among l log → l.moment ≤ moment → number_exposed on l.entry ≤ n) → greatest_exposed on moment log ≤ n
 shown_most on moment n [] h = omega arith
 shown_most on moment n (l ∷ ls) h =
     let rest = shown_most on moment n ls (λ m a. h m (inr a)) in
     let first = go (nat_le l.moment moment) refl in
     omega (arith, rest, first)
   where
-    go : (b : Bool) → nat_le l.moment moment ≡ b → (if b then number_shown on l.entry else 0) ≤ n
+    go : (b : Bool) → nat_le l.moment moment ≡ b → (if b then number_exposed on l.entry else 0) ≤ n
     go true e = h l (inl refl) (leb-true l.moment moment e)
     go false e = omega arith
 
-pub exposed_most : (plan : PlanView) (s : State) → Keeps plan s → (key : List ℕ) (moment n : ℕ) → ShowsAtMostBy plan s.log key moment n → exposed s.log key moment ≤ n
+pub exposed_most : (plan : PlanView) (s : State) → Keeps plan s → (key : List ℕ) (moment n : ℕ) → ExposedAtMostBy plan s.log key moment n → exposed s.log key moment ≤ n
 exposed_most plan s k key moment n h = shown_most (is_on s.log key) moment n s.log (λ l a b. line l.entry l.moment a b)
   where
-    line : (entry : LogEntry) (at : ℕ) → Among (line_at at entry) s.log → at ≤ moment → number_shown (is_on s.log key) entry ≤ n
+    line : (entry : LogEntry) (at : ℕ) → Among (line_at at entry) s.log → at ≤ moment → number_exposed (is_on s.log key) entry ≤ n
     line (Emitted op num body near) at a b = go (is_on s.log key op) refl
       where
         go : (t : Bool) → is_on s.log key op ≡ t → (if t then num else 0) ≤ n

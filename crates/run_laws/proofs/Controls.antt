@@ -8,7 +8,7 @@ use Rattle.far_base.specs.declared.log.LogEntry.TheVariants.{Sent, Numbered, Emi
 use Rattle.far_base.specs.declared.packet.Message.{Message}
 use Rattle.far_model.specs.Clients.{line_of}
 use Rattle.far_model.specs.Coherent.{Rises}
-use Rattle.far_model.specs.Invariants.{ShowsAtMost, look, entry, reach, reach_by, IsWritten}
+use Rattle.far_invariants.specs.Invariants.{look, entry, reach, reach_by, IsWritten, ExposedAtMost}
 use Rattle.far_model.specs.Members.{Among, Each, Pairs}
 use Rattle.far_model.specs.State.{State, client_at, now, noted}
 use Rattle.far_model.specs.View.{SlotView}
@@ -146,10 +146,10 @@ controls_keep plan notes s t k c settles =
     message m (inl a) = inl (a, λ caller op e n. n)
     message m (inr n) = inr n.0
 
-    covers : (key : List ℕ) → ShowsAtMost plan s.log key (reach plan s key) → ShowsAtMost plan t.log key (reach plan t key)
+    covers : (key : List ℕ) → ExposedAtMost plan s.log key (reach plan s key) → ExposedAtMost plan t.log key (reach plan t key)
     covers key h =
         let same : reach plan t key ≡ reach plan s key = (settles key).reach (look plan t key).num ∙ ap (λ (w : Versioned). reach_by w.num (entry key s.switch)) (looks key) in
-        subst (λ n. ShowsAtMost plan t.log key n) (sym same) (shown_lasts s t notes c.log plan key (reach plan s key) h (off_shows_each plan key (reach plan s key) notes (off key)))
+        subst (λ n. ExposedAtMost plan t.log key n) (sym same) (shown_lasts s t notes c.log plan key (reach plan s key) h (off_shows_each plan key (reach plan s key) notes (off key)))
 
     waits_on : (o : ℕ) → IsOpenOrAnswered plan s o → IsOpenOrAnswered plan t o
     waits_on o (inl w) = inl (c.waits (line_of plan.ops o).client ∙ w)

@@ -14,7 +14,7 @@ use Rattle.far_base.specs.declared.party.Party.TheVariants.{Client, Switch}
 use Rattle.far_base.specs.declared.record.Record.{Record}
 use Rattle.far_model.specs.Clients.{line_of}
 use Rattle.far_model.specs.Events.{handled, reply_at, is_switch, can_deliver}
-use Rattle.far_model.specs.Flights.{OfOperation, subject, is_of_client, is_operation, flights_of, open_count, OneFlightPerOperation, IsRouted}
+use Rattle.far_invariants.specs.Flights.{OfOperation, subject, is_of_client, is_operation, flights_of, open_count, OneFlightPerOperation, IsRouted}
 use Rattle.far_model.specs.Members.{Among}
 use Rattle.far_model.specs.Pass.{sent_to, reply_passes, takes_reply, absorbing, raised, changes, with_slot, emitted_notes}
 use Rattle.far_model.specs.State.{State}

@@ -1,4 +1,5 @@
 -- Where nothing is left to do, every operation is answered.
+use Rattle.far_invariants.specs.Sent.{AreSentOrLeft}
 use Rattle.std.proofs.Common.{◌≡◌, ◌≢◌, ℕ, zero, suc, ◌⊎◌, inl, inr, true, List, [], ◌∷◌, refl, sym, ap, ◌∙◌, true≢false}
 use Rattle.std.specs.Prelude.{Option, Some, None, slice_index_or, is_some, not}
 use Rattle.std.specs.List.{list_all}
@@ -8,10 +9,10 @@ use Rattle.far_base.specs.PlanView.{PlanView}
 use Rattle.far_base.specs.declared.log.LogEntry.{LogEntry}
 use Rattle.far_base.specs.declared.log.LogEntry.TheVariants.{Answered}
 use Rattle.far_base.specs.declared.log.LogLine.{LogLine}
-use Rattle.far_model.specs.Answered.{AllAnswered, AreSentOrLeft}
+use Rattle.far_model.specs.Answered.{AllAnswered}
 use Rattle.far_model.specs.Clients.{ClientState, line_of}
 use Rattle.far_model.specs.Events.{has_next}
-use Rattle.far_model.specs.Invariants.{LogIsSound, IsAnsweredInFull}
+use Rattle.far_invariants.specs.Invariants.{LogIsSound, IsAnsweredInFull}
 use Rattle.far_model.specs.Log.{answered_by, first_told, is_read, or_later}
 use Rattle.far_model.specs.Members.{Among}
 use Rattle.far_model.specs.Runs.{is_done, is_finished}

@@ -8,9 +8,9 @@ use Rattle.far_base.specs.declared.log.LogLine.{LogLine}
 use Rattle.far_base.specs.declared.packet.Packet.{Packet}
 use Rattle.far_base.specs.declared.packet.Packet.TheVariants.{GetReq, WriteReq, GetFwd, WriteFwd, GetRep, WriteRep, GetAns, WriteAns}
 use Rattle.far_model.specs.Clients.{line_of}
-use Rattle.far_model.specs.Coherent.{Rises, Earlier, HasOwnNumber, IsAnswering}
-use Rattle.far_model.specs.Flights.{subject, OfOperation}
-use Rattle.far_model.specs.Invariants.{TellsOf, ShowsAtMostBy, ShowsAtMost, look, entry, IsOwnNumber, IsWritten, WouldBeCurrent}
+use Rattle.far_model.specs.Coherent.{Rises, Earlier, IsAnswering, IsOwnNumber, ReachesOwnNumber}
+use Rattle.far_invariants.specs.Flights.{subject, OfOperation}
+use Rattle.far_invariants.specs.Invariants.{TellsOf, look, entry, IsWritten, WouldBeCurrent, ExposedAtMostBy, ExposedAtMost}
 use Rattle.far_model.specs.Members.{Among, Each, Pairs}
 use Rattle.far_model.specs.State.{State, client_at, line_at, now, noted}
 use Rattle.far_model.proofs.Members.{among_append_left, among_append_right, among_append, among_map, among_map_from, each_among, pairs_append, pairs_map}
@@ -89,27 +89,27 @@ module _ (s t : State) (notes : List LogEntry) (e : t.log ≡ noted s notes) whe
       go l b (inr n) = each_among (λ n. says n → ⊥) n.entry notes k n.among (subst says (ap (λ (w : LogLine). w.entry) n.is) b)
 
   -- what was shown up to a moment before this step stays
-  pub shown_by_lasts : (plan : PlanView) (key : List ℕ) (moment n : ℕ) → moment ≤ s.steps → ShowsAtMostBy plan s.log key moment n → ShowsAtMostBy plan t.log key moment n
+  pub shown_by_lasts : (plan : PlanView) (key : List ℕ) (moment n : ℕ) → moment ≤ s.steps → ExposedAtMostBy plan s.log key moment n → ExposedAtMostBy plan t.log key moment n
   shown_by_lasts plan key moment n b h = λ at op num body near a k before. go at op num body near k before (log_cases _ a)
     where
       go : (at op num : ℕ) (body : Option (List ℕ)) (near : Bool) → (line_of plan.ops op).key ≡ key → at ≤ moment → Among (line_at at (Emitted op num body near)) s.log ⊎ IsNote notes (now s) (line_at at (Emitted op num body near)) → num ≤ n
       go at op num body near k before (inl a) = h at op num body near a k before
       go at op num body near k before (inr m) = let late : at ≡ now s = ap (λ (w : LogLine). w.moment) m.is in absurd (omega arith)
 
-  pub shown_lasts : (plan : PlanView) (key : List ℕ) (n : ℕ) → ShowsAtMost plan s.log key n → Each (ShowsNoMore plan key n) notes → ShowsAtMost plan t.log key n
+  pub shown_lasts : (plan : PlanView) (key : List ℕ) (n : ℕ) → ExposedAtMost plan s.log key n → Each (ShowsNoMore plan key n) notes → ExposedAtMost plan t.log key n
   shown_lasts plan key n h k = λ at op num body near a on. go at op num body near on (log_cases _ a)
     where
       go : (at op num : ℕ) (body : Option (List ℕ)) (near : Bool) → (line_of plan.ops op).key ≡ key → Among (line_at at (Emitted op num body near)) s.log ⊎ IsNote notes (now s) (line_at at (Emitted op num body near)) → num ≤ n
       go at op num body near on (inl a) = h at op num body near a on
       go at op num body near on (inr m) = subst (ShowsNoMore plan key n) (sym (ap (λ (w : LogLine). w.entry) m.is)) (each_among (ShowsNoMore plan key n) m.entry notes k m.among) on
 
-pub shown_within : (plan : PlanView) (log : List LogLine) (key : List ℕ) (n m : ℕ) → ShowsAtMost plan log key n → n ≤ m → ShowsAtMost plan log key m
+pub shown_within : (plan : PlanView) (log : List LogLine) (key : List ℕ) (n m : ℕ) → ExposedAtMost plan log key n → n ≤ m → ExposedAtMost plan log key m
 shown_within plan log key n m h k = λ at op num body near a on. le_trans (h at op num body near a on) k
 
-pub shown_by_within : (plan : PlanView) (log : List LogLine) (key : List ℕ) (moment n m : ℕ) → ShowsAtMostBy plan log key moment n → n ≤ m → ShowsAtMostBy plan log key moment m
+pub shown_by_within : (plan : PlanView) (log : List LogLine) (key : List ℕ) (moment n m : ℕ) → ExposedAtMostBy plan log key moment n → n ≤ m → ExposedAtMostBy plan log key moment m
 shown_by_within plan log key moment n m h k = λ at op num body near a on before. le_trans (h at op num body near a on before) k
 
-pub shown_shown_by : (plan : PlanView) (log : List LogLine) (key : List ℕ) (moment n : ℕ) → ShowsAtMost plan log key n → ShowsAtMostBy plan log key moment n
+pub shown_shown_by : (plan : PlanView) (log : List LogLine) (key : List ℕ) (moment n : ℕ) → ExposedAtMost plan log key n → ExposedAtMostBy plan log key moment n
 shown_shown_by plan log key moment n h = λ at op num body near a on before. h at op num body near a on
 
 -- ---- one step
@@ -141,8 +141,8 @@ module _ (plan : PlanView) (Mine : ℕ → Type 0) (notes : List LogEntry) (s t 
   pub own_lasts : (moment later op num : ℕ) → moment ≤ later → IsOwnNumber s.log moment op num → IsOwnNumber t.log later op num
   own_lasts moment later op num b h = record { numbered_at = h.numbered_at; numbered = still _ h.numbered; before = le_trans h.before b }
 
-  pub has_own_lasts : (moment later op num : ℕ) → moment ≤ later → HasOwnNumber s.log moment op num → HasOwnNumber t.log later op num
-  has_own_lasts moment later op num b h = record { own = h.own; numbered_at = h.numbered_at; numbered = still _ h.numbered; before = le_trans h.before b; within = h.within }
+  pub has_own_lasts : (moment later op num : ℕ) → moment ≤ later → ReachesOwnNumber s.log moment op num → ReachesOwnNumber t.log later op num
+  has_own_lasts moment later op num b h = record { own = h.own; is = own_lasts moment later op h.own b h.is; within = h.within }
 
   pub written_lasts : (moment later : ℕ) (key : List ℕ) (num : ℕ) (body : Option (List ℕ)) → moment ≤ later → IsWritten plan s.log moment key num body → IsWritten plan t.log later key num body
   written_lasts moment later key num body b h = record {

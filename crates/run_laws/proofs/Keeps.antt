@@ -9,8 +9,8 @@ use Rattle.far_base.specs.declared.packet.Message.{Message}
 use Rattle.far_base.specs.declared.packet.Packet.{Packet}
 use Rattle.far_base.specs.declared.packet.Packet.TheVariants.{GetReq, WriteReq, GetFwd, WriteFwd, GetRep, WriteRep, GetAns, WriteAns, Admit, SnapPart, SnapSame}
 use Rattle.far_model.specs.Clients.{line_of}
-use Rattle.far_model.specs.Coherent.{Earlier, HasOwnNumber, IsAnswering}
-use Rattle.far_model.specs.Invariants.{ShowsAtMostBy, ShowsAtMost, look, entry, reach, IsOwnNumber, IsWritten, WouldBeCurrent}
+use Rattle.far_model.specs.Coherent.{Earlier, IsAnswering, IsOwnNumber, ReachesOwnNumber}
+use Rattle.far_invariants.specs.Invariants.{look, entry, reach, IsWritten, WouldBeCurrent, ExposedAtMostBy, ExposedAtMost}
 use Rattle.far_model.specs.Log.{is_read}
 use Rattle.far_model.specs.Members.{Among, Pairs}
 use Rattle.far_model.specs.Pass.{part_packet, is_as_before}
@@ -60,8 +60,8 @@ pub record AnswerStands (plan : PlanView) (s : State) (moment op num : ℕ) (bod
   pub written : Option (List ℕ)
   pub source : IsWritten plan s.log moment key num written
   pub same : is_read (line_of plan.ops op).op ≡ true → body ≡ written
-  pub floor : is_read (line_of plan.ops op).op ≡ true → ShowsAtMostBy plan s.log key sent.sent_at num
-  pub own : is_read (line_of plan.ops op).op ≡ false → HasOwnNumber s.log moment op num
+  pub floor : is_read (line_of plan.ops op).op ≡ true → ExposedAtMostBy plan s.log key sent.sent_at num
+  pub own : is_read (line_of plan.ops op).op ≡ false → ReachesOwnNumber s.log moment op num
   pub stored : is_read (line_of plan.ops op).op ≡ false → ((near ≡ true) × IsOwnNumber s.log moment op num) ⊎ (num ≤ (look plan s key).num)
 
 abbrev pub LineStands : PlanView → State → ℕ → LogEntry → Type 0
@@ -112,7 +112,7 @@ pub record ReadIsForwarded (plan : PlanView) (s : State) (caller op : ℕ) (key 
   pub serves : ServesOp plan s caller op key
   pub read : is_read (line_of plan.ops op).op ≡ true
   pub unemitted : Absent (EmitsOp op) s.log
-  pub floor : ShowsAtMostBy plan s.log key serves.sent.sent_at (look plan s key).num
+  pub floor : ExposedAtMostBy plan s.log key serves.sent.sent_at (look plan s key).num
   pub tagged : IsTagged plan s key tag (look plan s key).num
 
 pub record WriteIsForwarded (plan : PlanView) (s : State) (caller op : ℕ) (key : List ℕ) (num : ℕ) (body : Option (List ℕ)) : Type 0 where
@@ -127,7 +127,7 @@ pub record ReadIsReplied (plan : PlanView) (s : State) (caller op : ℕ) (key : 
   pub serves : ServesOp plan s caller op key
   pub read : is_read (line_of plan.ops op).op ≡ true
   pub unemitted : Absent (EmitsOp op) s.log
-  pub floor : ShowsAtMostBy plan s.log key serves.sent.sent_at num
+  pub floor : ExposedAtMostBy plan s.log key serves.sent.sent_at num
   pub known : num ≤ (look plan s key).num
   pub written : IsWritten plan s.log s.steps key num body
   pub tagged : IsTagged plan s key tag num
@@ -136,7 +136,7 @@ pub record WriteIsReplied (plan : PlanView) (s : State) (caller op : ℕ) (key :
   pub serves : ServesOp plan s caller op key
   pub write : is_read (line_of plan.ops op).op ≡ false
   pub unemitted : Absent (EmitsOp op) s.log
-  pub own : HasOwnNumber s.log s.steps op num
+  pub own : ReachesOwnNumber s.log s.steps op num
   pub known : num ≤ (look plan s key).num
   pub written : IsWritten plan s.log s.steps key num body
 
@@ -184,7 +184,7 @@ pub record Keeps (plan : PlanView) (s : State) : Type 0 where
   pub records : (key : List ℕ) → IsWritten plan s.log s.steps key (look plan s key).num (look plan s key).body
   pub left : (c : ℕ) → LeftIs plan s c
   pub open_or_answered : (at op : ℕ) → Among (line_at at (Sent op (line_of plan.ops op))) s.log → IsOpenOrAnswered plan s op
-  pub covers : s.running ≡ true → (key : List ℕ) → ShowsAtMost plan s.log key (reach plan s key)
+  pub covers : s.running ≡ true → (key : List ℕ) → ExposedAtMost plan s.log key (reach plan s key)
   pub slots : (key : List ℕ) (slot : SlotView) → entry key s.switch ≡ Some slot → SlotIs plan s key slot
   pub untagged : IsDrawn s 0
 

@@ -16,13 +16,13 @@ use Rattle.far_base.specs.declared.plan.Order.{Order}
 use Rattle.far_base.specs.declared.plan.Order.TheVariants.{Admit as AdmitOrder, Evict as EvictOrder, Snap as SnapOrder, Stop as StopOrder, StopAt as StopAtOrder}
 use Rattle.far_base.specs.declared.record.Record.{Record}
 use Rattle.far_base.specs.declared.slot_state.SlotState.TheVariants.{Free}
-use Rattle.far_model.specs.Invariants.{FitsState, IsGiven, admission_count}
+use Rattle.far_invariants.specs.Invariants.{FitsState, IsGiven, admission_count}
 use Rattle.far_model.specs.View.{SlotView, slot_at, empty_slot}
 use Rattle.far_model.specs.Controller.{ControllerState, tick, tick_wants, tick_want, tick_free, tick_room, makes_room, wanted}
 use Rattle.far_model.specs.Events.{happens, keeping_of, is_enabled, handled, reply_at, delivers, can_deliver_some, can_deliver, reply_to, all_listed, ticks, does_order, is_order_due, is_order_enabled, controller_turn}
 use Rattle.far_model.specs.Evictions.{state_at, is_free, has_key, first_place, victim}
-use Rattle.far_model.specs.Flights.{subject, is_operation, OneFlightPerOperation, IsRouted}
-use Rattle.far_model.specs.Lasting.{is_lasting_packet, is_lasting_message, is_lasting_tick, is_lasting_order, is_lasting, IsLasting}
+use Rattle.far_invariants.specs.Flights.{subject, is_operation, OneFlightPerOperation, IsRouted}
+use Rattle.far_invariants.specs.Lasting.{is_lasting_packet, is_lasting_message, is_lasting_tick, is_lasting_order, is_lasting, IsLasting}
 use Rattle.far_model.specs.Parties.{Turn, idle}
 use Rattle.far_model.specs.Runs.{run, IsRun}
 use Rattle.far_model.specs.State.{State, opening}

@@ -12,9 +12,9 @@ use Rattle.far_base.specs.declared.packet.Packet.{Packet}
 use Rattle.far_base.specs.declared.packet.Packet.TheVariants.{GetReq, WriteReq, GetFwd, WriteFwd, GetRep, WriteRep, GetAns, WriteAns}
 use Rattle.far_base.specs.declared.plan.OpLine.{OpLine}
 use Rattle.far_model.specs.Clients.{line_of}
-use Rattle.far_model.specs.Coherent.{Earlier, HasOwnNumber, IsAnswering}
-use Rattle.far_model.specs.Flights.{Subject, OfOperation, subject, is_of_client, flights_of, open_count, OneFlightPerOperation}
-use Rattle.far_model.specs.Invariants.{ShowsAtMost, ShowsAtMostBy, look, entry, IsOwnNumber, NumbersDiffer, IsServed, IsAbsorbed, IsForwardOf, IsForwarded, NumbersArrive, SeesFloor, CarriesWritten, HasNoLatest, ServerIsCurrent, LatestIsCurrent, IsTaggedCurrent, SendsByPlan, IsAnsweredInFull, ClosedAreAnswered, AnswersAreCurrent, LogIsSound, NumbersAreSound}
+use Rattle.far_model.specs.Coherent.{Earlier, IsAnswering, IsOwnNumber, ReachesOwnNumber}
+use Rattle.far_invariants.specs.Flights.{Subject, OfOperation, subject, is_of_client, flights_of, open_count, OneFlightPerOperation}
+use Rattle.far_invariants.specs.Invariants.{look, entry, NumbersDiffer, IsServed, IsAbsorbed, IsForwardOf, IsForwarded, NumbersArrive, SeesFloor, CarriesWritten, HasNoLatest, ServerIsCurrent, LatestIsCurrent, IsTaggedCurrent, SendsByPlan, IsAnsweredInFull, ClosedAreAnswered, AnswersAreCurrent, LogIsSound, NumbersAreSound, ExposedAtMostBy, ExposedAtMost}
 use Rattle.far_model.specs.Log.{exposed, is_read}
 use Rattle.far_model.specs.Members.{Among, Pairs}
 use Rattle.far_model.specs.State.{State, client_at, line_at}
@@ -73,8 +73,8 @@ module _ (plan : PlanView) (s : State) (k : Keeps plan s) where
   served _ h = tt
 
   floors : (p : Packet) → Relies plan s p → SeesFloor plan s p
-  floors (GetFwd caller op key tag) h = λ at a. subst (λ n. ShowsAtMostBy plan s.log key n (look plan s key).num) (sent_once _ _ op _ _ h.serves.sent.sent a) h.floor
-  floors (GetRep caller op key tag num body) h = λ at a. subst (λ n. ShowsAtMostBy plan s.log key n num) (sent_once _ _ op _ _ h.serves.sent.sent a) h.floor
+  floors (GetFwd caller op key tag) h = λ at a. subst (λ n. ExposedAtMostBy plan s.log key n (look plan s key).num) (sent_once _ _ op _ _ h.serves.sent.sent a) h.floor
+  floors (GetRep caller op key tag num body) h = λ at a. subst (λ n. ExposedAtMostBy plan s.log key n num) (sent_once _ _ op _ _ h.serves.sent.sent a) h.floor
   floors _ h = tt
 
   written : (p : Packet) → Relies plan s p → CarriesWritten plan s p
@@ -93,12 +93,12 @@ module _ (plan : PlanView) (s : State) (k : Keeps plan s) where
   server_current : ServerIsCurrent plan s
   server_current runs key none = go (entry key s.switch) refl none
     where
-      go : (e : Option SlotView) → entry key s.switch ≡ e → HasNoLatest e → ShowsAtMost plan s.log key (look plan s key).num
-      go None e h = subst (λ n. ShowsAtMost plan s.log key n) (reach_none (look plan s key).num (entry key s.switch) e) (k.covers runs key)
-      go (Some slot) e h = subst (λ n. ShowsAtMost plan s.log key n) (reach_outdated (look plan s key).num (entry key s.switch) slot e h) (k.covers runs key)
+      go : (e : Option SlotView) → entry key s.switch ≡ e → HasNoLatest e → ExposedAtMost plan s.log key (look plan s key).num
+      go None e h = subst (λ n. ExposedAtMost plan s.log key n) (reach_none (look plan s key).num (entry key s.switch) e) (k.covers runs key)
+      go (Some slot) e h = subst (λ n. ExposedAtMost plan s.log key n) (reach_outdated (look plan s key).num (entry key s.switch) slot e h) (k.covers runs key)
 
   latest_current : LatestIsCurrent plan s
-  latest_current runs key slot e h = subst (λ n. ShowsAtMost plan s.log key n) (reach_latest (look plan s key).num (entry key s.switch) slot e h) (k.covers runs key)
+  latest_current runs key slot e h = subst (λ n. ExposedAtMost plan s.log key n) (reach_latest (look plan s key).num (entry key s.switch) slot e h) (k.covers runs key)
 
   -- ---- own numbers arrive
 
@@ -144,12 +144,12 @@ module _ (plan : PlanView) (s : State) (k : Keeps plan s) where
       let write = ((k.lines _ a).stands).write in
       go e.key e.on_key (e.own write) (e.stored write)
     where
-      go : (key : List ℕ) → (line_of plan.ops op).key ≡ key → HasOwnNumber s.log h.emitted_at op h.num → ((h.near ≡ true) × IsOwnNumber s.log h.emitted_at op h.num) ⊎ (h.num ≤ (look plan s key).num) → Arrives op num
+      go : (key : List ℕ) → (line_of plan.ops op).key ≡ key → ReachesOwnNumber s.log h.emitted_at op h.num → ((h.near ≡ true) × IsOwnNumber s.log h.emitted_at op h.num) ⊎ (h.num ≤ (look plan s key).num) → Arrives op num
       go key on own (inl p) =
           let same : h.num ≡ num = numbered_once _ _ op _ _ p.1.numbered a in
           inl (record { emitted_at = h.emitted_at; body = h.body; emitted = subst (λ n. Among (line_at h.emitted_at (Emitted op n h.body true)) s.log) same (subst (λ b. Among (line_at h.emitted_at (Emitted op h.num h.body b)) s.log) p.0 h.emitted) })
       go key on own (inr b) =
-          let same : own.own ≡ num = numbered_once _ _ op _ _ own.numbered a in
+          let same : own.own ≡ num = numbered_once _ _ op _ _ own.is.numbered a in
           let within = own.within in
           inr (inl (subst (λ q. num ≤ (look plan s q).num) (sym on) (omega (arith, same, within, b))))
 
@@ -176,7 +176,7 @@ module _ (plan : PlanView) (s : State) (k : Keeps plan s) where
       absurd (let clash = sym h.read ∙ write in cc)
   packet_arrives at op num a m b (WriteRep c o key n body) e caller other is same h =
       let o_is : o ≡ op = (same_subject c o caller other is).1 ∙ same in
-      let own_is : h.own.own ≡ num = numbered_once _ _ op _ _ (subst (λ n. Among (line_at h.own.numbered_at (Numbered n h.own.own)) s.log) o_is h.own.numbered) a in
+      let own_is : h.own.own ≡ num = numbered_once _ _ op _ _ (subst (λ n. Among (line_at h.own.is.numbered_at (Numbered n h.own.own)) s.log) o_is h.own.is.numbered) a in
       let within = h.own.within in
       let known = h.known in
       let on : key ≡ (line_of plan.ops op).key = sym h.serves.on_key ∙ ap (λ n. (line_of plan.ops n).key) o_is in
@@ -239,7 +239,7 @@ module _ (plan : PlanView) (s : State) (k : Keeps plan s) where
         answered_at = at;
         answered = a;
         emitted = h;
-        numbered = λ write. let own = e.own write in (own.own, record { numbered_at = own.numbered_at; numbered = own.numbered; before = le_trans own.before h.before });
+        numbered = λ write. let own = e.own write in (own.own, record { numbered_at = own.is.numbered_at; numbered = own.is.numbered; before = le_trans own.is.before h.before });
       }
 
   closed : ClosedAreAnswered s
@@ -265,12 +265,12 @@ module _ (plan : PlanView) (s : State) (k : Keeps plan s) where
           let same : h.sent.sent_at ≡ sent_at = sent_once _ _ op _ _ h.sent.sent a in
           let key : h.key ≡ line.key = sym (ap (λ (w : OpLine). w.key) is ∙ h.on_key) in
           let shown = h.floor (subst (λ (w : OpLine). is_read w.op ≡ true) is read) in
-          exposed_most plan s k line.key sent_at num (subst (λ n. ShowsAtMostBy plan s.log line.key n num) same (subst (λ q. ShowsAtMostBy plan s.log q h.sent.sent_at num) key shown))
+          exposed_most plan s k line.key sent_at num (subst (λ n. ExposedAtMostBy plan s.log line.key n num) same (subst (λ q. ExposedAtMostBy plan s.log q h.sent.sent_at num) key shown))
 
       least : (numbered_at at op own num : ℕ) (body : Option (List ℕ)) (near : Bool) → Among (line_at numbered_at (Numbered op own)) s.log → Among (line_at at (Emitted op num body near)) s.log → own ≤ num
       least numbered_at at op own num body near a e =
           let h = ((k.lines _ e).stands).own ((k.lines _ a).stands).write in
-          let same : h.own ≡ own = numbered_once _ _ op _ _ h.numbered a in
+          let same : h.own ≡ own = numbered_once _ _ op _ _ h.is.numbered a in
           let within = h.within in
           omega (arith, same, within)
 

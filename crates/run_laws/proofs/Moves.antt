@@ -13,7 +13,7 @@ use Rattle.far_base.specs.declared.plan.OpLine.{OpLine}
 use Rattle.far_base.specs.declared.record.Record.{Record}
 use Rattle.far_model.specs.Clients.{line_of, request}
 use Rattle.far_model.specs.Events.{handled, reply_at, sends, next_sent, switch_turn}
-use Rattle.far_model.specs.Flights.{subject, is_operation, IsRouted}
+use Rattle.far_invariants.specs.Flights.{subject, is_operation, IsRouted}
 use Rattle.far_model.specs.Log.{is_read}
 use Rattle.far_model.specs.Members.{Among}
 use Rattle.far_model.specs.Parties.{messages_from}

@@ -7,7 +7,7 @@ use Rattle.far_base.specs.PlanView.{PlanView}
 use Rattle.far_base.specs.declared.plan.OpLine.{OpLine}
 use Rattle.far_model.specs.Clients.{ClientState, no_line, script, script_from, opening_client}
 use Rattle.far_model.specs.History.{nothing}
-use Rattle.far_model.specs.Invariants.{look, entry, slot_if, IsWritten}
+use Rattle.far_invariants.specs.Invariants.{look, entry, slot_if, IsWritten}
 use Rattle.far_model.specs.KeyedRecords.{found}
 use Rattle.far_model.specs.Members.{Among, Pairs}
 use Rattle.far_model.specs.State.{opening, clients_from, client_at, nobody}

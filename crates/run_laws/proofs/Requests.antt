@@ -1,4 +1,5 @@
 -- Requests to the switch: reads and writes.
+use Rattle.far_model.specs.Coherent.{IsOwnNumber}
 use Rattle.std.proofs.Common.{◌≡◌, ◌≢◌, ℕ, ◌+◌, ◌<◌, ◌≤◌, max, inl, inr, Bool, true, false, List, [], ◌∷◌, refl, sym, ap, ◌∙◌, subst, arith, le_trans}
 use Rattle.std.specs.Prelude.{Option, Some, None, if◌then◌else◌}
 use Rattle.std.proofs.lemmas.Option.{same_Some}
@@ -11,7 +12,7 @@ use Rattle.far_base.specs.declared.packet.Packet.TheVariants.{GetReq, WriteReq, 
 use Rattle.far_base.specs.declared.party.Party.TheVariants.{Client, Server, Controller}
 use Rattle.far_model.specs.Clients.{line_of}
 use Rattle.far_model.specs.Events.{switch_turn}
-use Rattle.far_model.specs.Invariants.{ShowsAtMost, look, entry, slot_if, reach, reach_by, IsOwnNumber, IsWritten, WouldBeCurrent}
+use Rattle.far_invariants.specs.Invariants.{look, entry, slot_if, reach, reach_by, IsWritten, WouldBeCurrent, ExposedAtMost}
 use Rattle.far_model.specs.Members.{Among, Each}
 use Rattle.far_model.specs.Pass.{Passed, sent_to, read_passes, write_passes, numbered, absorbing, touched, told_hot, grows_hot, hot_cell, part_of, with_slot, with_taken}
 use Rattle.far_model.specs.State.{State, client_at, line_at, now, noted, stepped}
@@ -57,7 +58,7 @@ quiet_passes plan s w notes key k config counter same off = record {
   counter = counter;
   others = λ other ne. same other;
   not_on = λ other ne. off other;
-  covers = λ runs. subst (λ e. ShowsAtMost plan (noted s notes) key (reach_by (look plan s key).num e)) (sym (same key))
+  covers = λ runs. subst (λ e. ExposedAtMost plan (noted s notes) key (reach_by (look plan s key).num e)) (sym (same key))
       (shown_lasts s (stepped s [] notes) notes refl plan key (reach plan s key) (k.covers runs key) (off_shows_each plan key (reach plan s key) notes (off key)));
   drawn = λ slot is. (k.slots key slot (sym (same key) ∙ is)).drawn;
   written = λ slot is latest. written_still plan s notes key slot.num slot.body ((k.slots key slot (sym (same key) ∙ is)).written latest);
@@ -75,8 +76,8 @@ near_passes plan s op body near key slot k on is latest = record {
   counter = omega arith;
   others = λ other ne. refl;
   not_on = λ other ne. (λ q. ne (sym q ∙ on), tt);
-  covers = λ runs. subst (λ n. ShowsAtMost plan (noted s (Emitted op slot.num body near ∷ [])) key n) (sym reaches)
-      (shown_lasts s (stepped s [] (Emitted op slot.num body near ∷ [])) (Emitted op slot.num body near ∷ []) refl plan key slot.num (subst (λ n. ShowsAtMost plan s.log key n) reaches (k.covers runs key)) (λ q. omega arith, tt));
+  covers = λ runs. subst (λ n. ExposedAtMost plan (noted s (Emitted op slot.num body near ∷ [])) key n) (sym reaches)
+      (shown_lasts s (stepped s [] (Emitted op slot.num body near ∷ [])) (Emitted op slot.num body near ∷ []) refl plan key slot.num (subst (λ n. ExposedAtMost plan s.log key n) reaches (k.covers runs key)) (λ q. omega arith, tt));
   drawn = λ other is'. (k.slots key other is').drawn;
   written = λ other is' l. written_still plan s (Emitted op slot.num body near ∷ []) key other.num other.body ((k.slots key other is').written l);
   current = λ tag n m c b other is' old under. absurd (clash other (same_Some slot other (sym is ∙ is')) old);
@@ -93,20 +94,20 @@ pub set_passes : (plan : PlanView) (s : State) (v w : SwitchView) (notes : List 
     → v.config ≡ s.switch.config → s.switch.counter ≤ v.counter → ((other : List ℕ) → entry other v ≡ entry other s.switch)
     → SetsSlot v w i slot → IsEntry key v i → is_slot_of key slot ≡ true
     → ((other : List ℕ) → other ≢ key → Each (NotOn plan other) notes)
-    → (s.running ≡ true → ShowsAtMost plan (noted s notes) key (reach_by (look plan s key).num (Some slot)))
+    → (s.running ≡ true → ExposedAtMost plan (noted s notes) key (reach_by (look plan s key).num (Some slot)))
     → IsDrawn s slot.tag
     → (slot.latest ≡ true → IsWritten plan (noted s notes) (now s) key slot.num slot.body)
-    → ((tag n m : ℕ) → WouldBeCurrent plan s key tag n → n ≤ m → slot.latest ≡ false → slot.tag ≡ tag → ShowsAtMost plan (noted s notes) key (max m slot.num))
+    → ((tag n m : ℕ) → WouldBeCurrent plan s key tag n → n ≤ m → slot.latest ≡ false → slot.tag ≡ tag → ExposedAtMost plan (noted s notes) key (max m slot.num))
     → PassesFor plan s w notes key
 set_passes plan s v w notes key i slot config counter same sets is owned off covers drawn written current = record {
   config = sets.config ∙ config;
   counter = let e = sets.counter in omega (arith, counter);
   others = λ other ne. entry_kept other key v w i slot sets is ne ∙ same other;
   not_on = off;
-  covers = λ runs. subst (λ e. ShowsAtMost plan (noted s notes) key (reach_by (look plan s key).num e)) (sym here) (covers runs);
+  covers = λ runs. subst (λ e. ExposedAtMost plan (noted s notes) key (reach_by (look plan s key).num e)) (sym here) (covers runs);
   drawn = λ other is'. subst (λ (x : SlotView). IsDrawn s x.tag) (same_Some slot other (sym here ∙ is')) drawn;
   written = λ other is' l. subst (λ (x : SlotView). x.latest ≡ true → IsWritten plan (noted s notes) (now s) key x.num x.body) (same_Some slot other (sym here ∙ is')) written l;
-  current = λ tag n m c b other is' old under. subst (λ (x : SlotView). x.latest ≡ false → x.tag ≡ tag → ShowsAtMost plan (noted s notes) key (max m x.num)) (same_Some slot other (sym here ∙ is')) (λ o u. current tag n m c b o u) old under;
+  current = λ tag n m c b other is' old under. subst (λ (x : SlotView). x.latest ≡ false → x.tag ≡ tag → ExposedAtMost plan (noted s notes) key (max m x.num)) (same_Some slot other (sym here ∙ is')) (λ o u. current tag n m c b o u) old under;
 }
   where
     here : entry key w ≡ Some slot
@@ -141,7 +142,7 @@ module _ (plan : PlanView) (s : State) (k : Keeps plan s) (runs : s.running ≡ 
       → GoesWell plan (passed_state s rest (GetReq caller op key) (record { view = w; first = sent_to (Server (server_of s.switch.config key)) (GetFwd caller op key tag); second = second }) []) (sent_to (Server (server_of s.switch.config key)) (GetFwd caller op key tag))
   forwards w second tag same reaches drawn g h =
       let t : State = passed_state s rest (GetReq caller op key) (record { view = w; first = sent_to (Server (server_of s.switch.config key)) (GetFwd caller op key tag); second = second }) [] in
-      let shown : ShowsAtMost plan t.log key (look plan s key).num = shown_lasts s t [] refl plan key (look plan s key).num (subst (λ n. ShowsAtMost plan s.log key n) reaches (k.covers runs key)) tt in (
+      let shown : ExposedAtMost plan t.log key (look plan s key).num = shown_lasts s t [] refl plan key (look plan s key).num (subst (λ n. ExposedAtMost plan s.log key n) reaches (k.covers runs key)) tt in (
         record {
           serves = serves_lasts plan (Its op) [] s t g caller op key (absent_lasts s t [] refl (AnswersOp op) h.serves.unanswered tt) h.serves;
           read = h.read;
@@ -176,7 +177,7 @@ module _ (plan : PlanView) (s : State) (k : Keeps plan s) (runs : s.running ≡ 
                   source = written_still plan s (Emitted op slot.num slot.body true ∷ []) key slot.num slot.body ((k.slots key slot is).written latest);
                   same = λ read. refl;
                   floor = λ read. shown_by_lasts s t (Emitted op slot.num slot.body true ∷ []) refl plan key h.serves.sent.sent_at slot.num h.serves.sent.before
-                      (shown_shown_by plan s.log key h.serves.sent.sent_at slot.num (subst (λ n. ShowsAtMost plan s.log key n) reaches (k.covers runs key)));
+                      (shown_shown_by plan s.log key h.serves.sent.sent_at slot.num (subst (λ n. ExposedAtMost plan s.log key n) reaches (k.covers runs key)));
                   own = λ write. absurd (let e = sym h.read ∙ write in cc);
                   stored = λ write. absurd (let e = sym h.read ∙ write in cc);
                 };
@@ -235,7 +236,7 @@ module _ (plan : PlanView) (s : State) (k : Keeps plan s) (runs : s.running ≡ 
       let p : Passed = record { view = w; first = sent_to (Client caller) (WriteAns caller op key w.counter true); second = second } in
       let t : State = write_after body w second in
       let is : IsEntry key (numbered s.switch) i = entry_is key (numbered s.switch) i e in
-      let shown : ShowsAtMost plan t.log key w.counter = shown_lasts s t (write_notes w) refl plan key w.counter
+      let shown : ExposedAtMost plan t.log key w.counter = shown_lasts s t (write_notes w) refl plan key w.counter
       (shown_within plan s.log key s.switch.counter w.counter (shown_counted plan s k runs key) (omega (arith, above))) (tt, (λ q. omega arith, tt)) in
       let written : IsWritten plan t.log (now s) key w.counter body = record {
         none = λ zero. absurd (omega (arith, zero, above));
@@ -264,7 +265,7 @@ module _ (plan : PlanView) (s : State) (k : Keeps plan s) (runs : s.running ≡ 
                 source = written;
                 same = λ read. absurd (let e = sym h.write ∙ read in cc);
                 floor = λ read. absurd (let e = sym h.write ∙ read in cc);
-                own = λ write. record { own = w.counter; numbered_at = now s; numbered = note_member s t (write_notes w) refl _ (inl refl); before = omega arith; within = omega arith };
+                own = λ write. record { own = w.counter; is = own_now t (write_notes w) w.counter refl (inl refl); within = omega arith };
                 stored = λ write. inl (refl, own_now t (write_notes w) w.counter refl (inl refl));
               };
               about = λ o n. n;

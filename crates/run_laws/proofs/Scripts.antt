@@ -17,8 +17,8 @@ use Rattle.far_base.specs.declared.record.Record.{Record}
 use Rattle.far_model.specs.Clients.{ClientState, line_of, closed, preserves, answered_record, request, client_takes}
 use Rattle.far_model.specs.Coherent.{Rises}
 use Rattle.far_model.specs.Events.{client_turn, next_sent, can_send, has_next, sends}
-use Rattle.far_model.specs.Flights.{subject, OfOperation}
-use Rattle.far_model.specs.Invariants.{TellsOf, entry, reach}
+use Rattle.far_invariants.specs.Flights.{subject, OfOperation}
+use Rattle.far_invariants.specs.Invariants.{TellsOf, entry, reach}
 use Rattle.far_model.specs.KeyedRecords.{put_record}
 use Rattle.far_model.specs.Log.{is_read}
 use Rattle.far_model.specs.Members.{Among, Each, Pairs}

@@ -12,7 +12,7 @@ use Rattle.far_base.specs.declared.packet.Packet.TheVariants.{Admit, AdmitAck}
 use Rattle.far_base.specs.declared.slot_state.SlotState.{SlotState}
 use Rattle.far_base.specs.declared.slot_state.SlotState.TheVariants.{Free, Admitting, Held, Evicting}
 use Rattle.far_model.specs.Evictions.{state_at}
-use Rattle.far_model.specs.Invariants.{IsSlotOf, FitsState, IsGiven, SlotsAreOwned, AdmissionIs, is_admission_of, admits_under, admission_count, AdmissionsInFlight}
+use Rattle.far_invariants.specs.Invariants.{IsSlotOf, FitsState, IsGiven, SlotsAreOwned, AdmissionIs, is_admission_of, admits_under, admission_count, AdmissionsInFlight}
 use Rattle.far_model.specs.Members.{Among}
 use Rattle.far_model.specs.State.{State}
 use Rattle.far_model.specs.View.{SlotView, SwitchView, slot_at, empty_slot, is_key_there, bound_place, entry_if, entry_place}

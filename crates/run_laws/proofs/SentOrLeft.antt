@@ -1,4 +1,5 @@
 -- Each operation of the plan was sent, or its client has still to send it.
+use Rattle.far_invariants.specs.Sent.{HasBeenSent, AreSentOrLeft}
 use Rattle.std.proofs.Common.{◌≡◌, ℕ, zero, suc, ◌+◌, ◌-◌, ◌<◌, ◌⊎◌, inl, inr, Bool, true, false, List, [], ◌∷◌, length, map, refl, sym, ap, ◌∙◌, subst, arith, zero-add, ◌≢◌, eqb}
 use Rattle.std.specs.Prelude.{Option, Some, None, if◌then◌else◌, slice_get, slice_set, slice_index_or, ◌&&◌, nat_lt, nat_eq}
 use Rattle.std.specs.List.{AllByRecursion}
@@ -22,7 +23,6 @@ use Rattle.far_base.specs.declared.plan.Order.TheVariants.{Admit as AdmitOrder, 
 use Rattle.far_base.specs.declared.record.Record.{Record}
 use Rattle.far_model.proofs.Members.{among_append_left, among_append_right}
 use Rattle.flight_laws.proofs.WithoutCache.{client_within}
-use Rattle.far_model.specs.Answered.{HasBeenSent, AreSentOrLeft}
 use Rattle.far_model.specs.Clients.{ClientState, line_of, no_line, closed, client_takes, script_from, opening_client}
 use Rattle.far_model.specs.Controller.{ControllerState, tick, ready, wanted, evict_key, start_snapshot, start_recovery}
 use Rattle.far_model.specs.Events.{Keeping, client_turn, controller_turn, next_sent, happens, happens_with, handled, delivers, does_order, keeping_of, restarts, ticks, is_enabled}

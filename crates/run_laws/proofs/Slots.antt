@@ -7,7 +7,7 @@ use Rattle.std.proofs.lemmas.List.{get_or-set_same, get_or-set_other}
 use Rattle.far_model.specs.Log.{same_key}
 use Rattle.far_model.specs.Pass.{with_slot, with_taken}
 use Rattle.far_model.specs.View.{SlotView, SwitchView, slot_at, is_key_there, next_place, bound_place, is_slot_of, entry_if, entry_place, held_record, empty_slot}
-use Rattle.far_model.specs.Invariants.{entry, slot_if}
+use Rattle.far_invariants.specs.Invariants.{entry, slot_if}
 
 pub same_key_true : (a b : List ℕ) → same_key a b ≡ true → a ≡ b
 same_key_true a b h = (bytes_decides a b).0 h

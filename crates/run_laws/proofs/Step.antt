@@ -11,8 +11,8 @@ use Rattle.far_base.specs.declared.packet.Packet.{Packet}
 use Rattle.far_base.specs.declared.party.Party.TheVariants.{Switch}
 use Rattle.far_model.specs.Clients.{line_of}
 use Rattle.far_model.specs.Coherent.{Rises, Earlier}
-use Rattle.far_model.specs.Flights.{subject, OfOperation}
-use Rattle.far_model.specs.Invariants.{ShowsAtMost, look, entry, reach, reach_by, IsWritten, WouldBeCurrent}
+use Rattle.far_invariants.specs.Flights.{subject, OfOperation}
+use Rattle.far_invariants.specs.Invariants.{look, entry, reach, reach_by, IsWritten, WouldBeCurrent, ExposedAtMost}
 use Rattle.far_model.specs.Members.{Among, Each, Pairs}
 use Rattle.far_model.specs.Parties.{messages_from}
 use Rattle.far_model.specs.Pass.{Passed, passed_out, outs_of}
@@ -52,7 +52,7 @@ pub record Holds (plan : PlanView) (t : State) : Type 0 where
   pub records : (key : List ℕ) → IsWritten plan t.log t.steps key (look plan t key).num (look plan t key).body
   pub left : (c : ℕ) → LeftIs plan t c
   pub open_or_answered : (at op : ℕ) → Among (line_at at (Sent op (line_of plan.ops op))) t.log → IsOpenOrAnswered plan t op
-  pub covers : t.running ≡ true → (key : List ℕ) → ShowsAtMost plan t.log key (reach plan t key)
+  pub covers : t.running ≡ true → (key : List ℕ) → ExposedAtMost plan t.log key (reach plan t key)
   pub slots : (key : List ℕ) (slot : SlotView) → entry key t.switch ≡ Some slot → SlotIs plan t key slot
 
 pub next : (plan : PlanView) (Mine : ℕ → Type 0) (notes : List LogEntry) (s t : State) → Keeps plan s → Grows plan Mine notes s t
@@ -86,7 +86,7 @@ next plan Mine notes s t k g n pairs bag h = record {
     flight m (inr f) = f
 
 -- no number shown is greater than what the switch has counted
-pub shown_counted : (plan : PlanView) (s : State) → Keeps plan s → s.running ≡ true → (key : List ℕ) → ShowsAtMost plan s.log key s.switch.counter
+pub shown_counted : (plan : PlanView) (s : State) → Keeps plan s → s.running ≡ true → (key : List ℕ) → ExposedAtMost plan s.log key s.switch.counter
 shown_counted plan s k runs key = λ at op num body near a on. go at op num body near a
   where
     go : (at op num : ℕ) (body : Option (List ℕ)) (near : Bool) → Among (line_at at (Emitted op num body near)) s.log → num ≤ s.switch.counter
@@ -135,11 +135,11 @@ pub record PassesFor (plan : PlanView) (s : State) (w : SwitchView) (notes : Lis
   pub counter : s.switch.counter ≤ w.counter
   pub others : (other : List ℕ) → other ≢ key → entry other w ≡ entry other s.switch
   pub not_on : (other : List ℕ) → other ≢ key → Each (NotOn plan other) notes
-  pub covers : s.running ≡ true → ShowsAtMost plan (noted s notes) key (reach_by (look plan s key).num (entry key w))
+  pub covers : s.running ≡ true → ExposedAtMost plan (noted s notes) key (reach_by (look plan s key).num (entry key w))
   pub drawn : (slot : SlotView) → entry key w ≡ Some slot → IsDrawn s slot.tag
   pub written : (slot : SlotView) → entry key w ≡ Some slot → slot.latest ≡ true → IsWritten plan (noted s notes) (now s) key slot.num slot.body
   pub current : (tag n m : ℕ) → WouldBeCurrent plan s key tag n → n ≤ m
-      → (slot : SlotView) → entry key w ≡ Some slot → slot.latest ≡ false → slot.tag ≡ tag → ShowsAtMost plan (noted s notes) key (max m slot.num)
+      → (slot : SlotView) → entry key w ≡ Some slot → slot.latest ≡ false → slot.tag ≡ tag → ExposedAtMost plan (noted s notes) key (max m slot.num)
 
 -- no operation is sent
 abbrev pub IsNoSending : LogEntry → Type 0
@@ -180,7 +180,7 @@ module _ (plan : PlanView) (Mine : ℕ → Type 0) (s : State) (rest : List Mess
 
       current : (other : List ℕ) → (other ≡ key) ⊎ (other ≢ key) → (tag n m : ℕ) → WouldBeCurrent plan s other tag n → n ≤ m → WouldBeCurrent plan after other tag m
       current other (inl same) tag n m c b slot is old under =
-          subst (λ k. WouldBeCurrent plan s k tag n → entry k p.view ≡ Some slot → ShowsAtMost plan (noted s notes) k (max m slot.num)) (sym same)
+          subst (λ k. WouldBeCurrent plan s k tag n → entry k p.view ≡ Some slot → ExposedAtMost plan (noted s notes) k (max m slot.num)) (sym same)
           (λ c' is'. f.current tag n m c' b slot is' old under) c is
       current other (inr ne) tag n m c b slot is old under =
           let first = shown_lasts s after notes refl plan other (max n slot.num) (c slot (sym (f.others other ne) ∙ is) old under) (off_shows_each plan other (max n slot.num) notes (f.not_on other ne)) in
@@ -214,11 +214,11 @@ module _ (plan : PlanView) (Mine : ℕ → Type 0) (s : State) (rest : List Mess
       waits_on op (inl waits) = inl waits
       waits_on op (inr h) = inr (record { answered_at = h.answered_at; answered = member s after notes refl _ h.answered })
 
-      covers : s.running ≡ true → (other : List ℕ) → (other ≡ key) ⊎ (other ≢ key) → ShowsAtMost plan after.log other (reach plan after other)
-      covers runs other (inl same) = subst (λ k. ShowsAtMost plan (noted s notes) k (reach_by (look plan s k).num (entry k p.view))) (sym same) (f.covers runs)
+      covers : s.running ≡ true → (other : List ℕ) → (other ≡ key) ⊎ (other ≢ key) → ExposedAtMost plan after.log other (reach plan after other)
+      covers runs other (inl same) = subst (λ k. ExposedAtMost plan (noted s notes) k (reach_by (look plan s k).num (entry k p.view))) (sym same) (f.covers runs)
       covers runs other (inr ne) =
           let first = shown_lasts s after notes refl plan other (reach plan s other) (k.covers runs other) (off_shows_each plan other (reach plan s other) notes (f.not_on other ne)) in
-          subst (λ e. ShowsAtMost plan (noted s notes) other (reach_by (look plan s other).num e)) (sym (f.others other ne)) first
+          subst (λ e. ExposedAtMost plan (noted s notes) other (reach_by (look plan s other).num e)) (sym (f.others other ne)) first
 
       slots : Grows plan Mine notes s after → (other : List ℕ) → (other ≡ key) ⊎ (other ≢ key) → (slot : SlotView) → entry other p.view ≡ Some slot → SlotIs plan after other slot
       slots g other (inl same) slot is = subst (λ k. entry k p.view ≡ Some slot → SlotIs plan after k slot) (sym same)

@@ -12,7 +12,7 @@ use Rattle.far_base.specs.declared.party.Party.TheVariants.{Switch, Server}
 use Rattle.far_base.specs.declared.record.Record.{Record}
 use Rattle.far_model.specs.Events.{server_turn}
 use Rattle.far_model.specs.History.{nothing, held_in}
-use Rattle.far_model.specs.Invariants.{look, entry, reach, reach_by, IsWritten}
+use Rattle.far_invariants.specs.Invariants.{look, entry, reach, reach_by, IsWritten}
 use Rattle.far_model.specs.KeyedRecords.{found, put_record}
 use Rattle.far_model.specs.Log.{same_key}
 use Rattle.far_model.specs.Members.{Among}
@@ -174,7 +174,7 @@ module _ (plan : PlanView) (s : State) (k : Keeps plan s) (rest : List Message) 
         serves = serves_lasts plan (Its op) [] s t g caller op key (absent_lasts s t [] refl (AnswersOp op) h.serves.unanswered tt) h.serves;
         write = h.write;
         unemitted = absent_lasts s t [] refl (EmitsOp op) h.unemitted tt;
-        own = record { own = num; numbered_at = h.own.numbered_at; numbered = member s t [] refl _ h.own.numbered; before = le_trans h.own.before (past plan (Its op) [] s t g); within = least };
+        own = record { own = num; is = record { numbered_at = h.own.numbered_at; numbered = member s t [] refl _ h.own.numbered; before = le_trans h.own.before (past plan (Its op) [] s t g) }; within = least };
         known = subst (λ (w : Versioned). (found after key).num ≤ w.num) (sym its_look) (omega arith);
         written = subst (λ (w : Versioned). IsWritten plan t.log t.steps key w.num w.body) its_look (records key);
       })

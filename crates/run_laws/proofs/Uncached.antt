@@ -11,10 +11,10 @@ use Rattle.far_base.specs.declared.party.Party.{Party}
 use Rattle.far_base.specs.declared.record.Record.{Record}
 use Rattle.far_base.specs.declared.plan.Config.{Config}
 use Rattle.far_model.specs.Events.{happens, keeping_of, is_enabled, delivers, can_deliver_some, reply_to, all_listed}
-use Rattle.far_model.specs.Flights.{subject, is_operation, OneFlightPerOperation, IsRouted}
+use Rattle.far_invariants.specs.Flights.{subject, is_operation, OneFlightPerOperation, IsRouted}
 use Rattle.far_model.specs.Runs.{run, IsRun}
 use Rattle.far_model.specs.State.{State, opening}
-use Rattle.far_model.specs.Uncached.{IsUncachedPlan, IsUncached, GoesTo}
+use Rattle.far_invariants.specs.Uncached.{IsUncachedPlan, IsUncached, GoesTo}
 use Rattle.far_model.proofs.Members.{among_at}
 use Rattle.flight_laws.proofs.Handling.{IsInFlight, flight_opens, flight_step}
 use Rattle.flight_laws.proofs.WithoutCache.{answers_in_kind, opening_uncached, happens_uncached, only_messages}

@@ -5,11 +5,11 @@ ghost use Rattle.far_base.specs.PlanView.{PlanView};
 ghost use Rattle.far_base.specs.declared.event.Event.{Event};
 ghost use Rattle.far_model.specs.Coherent.{IsCoherent};
 ghost use Rattle.far_base.specs.Limits.{IsPlan};
-ghost use Rattle.far_model.specs.Invariants.{AdmissionsInFlight, AnswersAreCurrent, LogIsSound, NumbersAreSound, SlotsAreOwned};
-ghost use Rattle.far_model.specs.Lasting.{IsLasting};
+ghost use Rattle.far_invariants.specs.Invariants.{AdmissionsInFlight, AnswersAreCurrent, LogIsSound, NumbersAreSound, SlotsAreOwned};
+ghost use Rattle.far_invariants.specs.Lasting.{IsLasting};
 ghost use Rattle.far_model.specs.Runs.{IsRun, run};
 ghost use Rattle.far_model.specs.State.{opening};
-ghost use Rattle.far_model.specs.Uncached.{IsUncachedPlan};
+ghost use Rattle.far_invariants.specs.Uncached.{IsUncachedPlan};
 
 /// The log of every run of a plan without a cache is coherent: each read is answered with at least
 /// what was exposed when it was sent, and each write with at least its own number. Numbers differ,

@@ -20,7 +20,7 @@ use Rattle.far_model.specs.Controller.{ControllerState, controller_takes, job_tu
 use Rattle.far_model.specs.Events.{Keeping, happens, keeping_of, handled, delivers, ticks, restarts, does_order, is_enabled, reply_to, all_listed}
 use Rattle.far_model.specs.Members.{Among}
 use Rattle.far_model.specs.Parties.{Turn, idle}
-use Rattle.far_model.specs.Past.{SnapshotStart, Past, new_starts, remembers}
+use Rattle.far_invariants.specs.Past.{SnapshotStart, Past, new_starts, remembers}
 use Rattle.far_model.specs.Snapshots.{Job, SnapshotView, no_snapshot, has_begun, has_part, is_whole, completed, part_reads, with_part, with_same}
 use Rattle.far_model.specs.State.{State}
 use Rattle.far_model.specs.View.{is_taken}

@@ -18,9 +18,9 @@ use Rattle.far_model.specs.Events.{Keeping, happens, happens_with, keeping_of, h
 use Rattle.far_model.specs.Members.{Among, Each}
 use Rattle.far_model.specs.Parties.{Turn, idle}
 use Rattle.far_model.specs.Pass.{pass, starts_snapshot, dropped, pass_notes}
-use Rattle.far_model.specs.Past.{SnapshotStart, Past, start_of, starts_by, starts_with, remembers}
+use Rattle.far_invariants.specs.Past.{SnapshotStart, Past, start_of, starts_by, starts_with, remembers}
 use Rattle.far_model.specs.Snapshots.{Job}
-use Rattle.far_model.specs.Replies.{RepliesAt, RepliesToMessage, KeepersAnswer}
+use Rattle.far_model.specs.Replies.{RepliesAt, RepliesToMessage, AnswersInKind}
 use Rattle.far_model.specs.State.{State, client_at, records_at}
 use Rattle.far_model.specs.View.{SwitchView}
 use Rattle.far_model.proofs.Members.{among_at}
@@ -137,7 +137,7 @@ module _ {tells : Bool} (plan : PlanView) (s : State) (starts : List SnapshotSta
 
 -- what holds of snapshots before an event holds after it
 module _ {tells : Bool} where
-  pub event_stands_with : (plan : PlanView) (k : Keeping) (s : State) (p : Past) (e : Event) → SnapshotsStand tells plan s p.starts → Needs tells plan s → KeepersAnswer s e k → is_enabled plan s e ≡ true → SnapshotsStand tells plan (happens_with plan k s e) (remembers s p e).starts
+  pub event_stands_with : (plan : PlanView) (k : Keeping) (s : State) (p : Past) (e : Event) → SnapshotsStand tells plan s p.starts → Needs tells plan s → AnswersInKind s e k → is_enabled plan s e ≡ true → SnapshotsStand tells plan (happens_with plan k s e) (remembers s p e).starts
   event_stands_with plan k s p (Send c) h owed answers can = subst (SnapshotsStand tells plan (happens_with plan k s (Send c))) (sym (append-nil p.starts)) (sent_stands plan s p.starts h s.bag (rest_all s.bag) c (client_at s c).left)
   event_stands_with plan k s p (Deliver i) h owed answers can = delivery_stands plan s p.starts h owed i k (slice_get s.bag i) refl can answers
   event_stands_with plan k s p Tick h owed answers can = subst (SnapshotsStand tells plan (happens_with plan k s Tick)) (sym (append-nil p.starts)) (tick_stands plan s p.starts h owed (tick s.controller) refl)
@@ -149,7 +149,7 @@ module _ {tells : Bool} where
       (order_event plan s p.starts h owed (slice_get plan.orders j) (ap (λ n. is_order_due s (slice_get plan.orders n)) (eqb-true j s.done first.0) ∙ first.1) (s.done + 1))
 
 -- the rule of a server answers in kind
-pub keepers_answer : (s : State) (e : Event) → KeepersAnswer s e (keeping_of s e)
+pub keepers_answer : (s : State) (e : Event) → AnswersInKind s e (keeping_of s e)
 keepers_answer s (Deliver i) = go (slice_get s.bag i)
   where
     at : (to : Party) (p : Packet) → RepliesAt to p (reply_at s to p)

@@ -16,12 +16,12 @@ use Rattle.far_base.specs.declared.plan.Order.TheVariants.{Admit as AdmitOrder, 
 use Rattle.far_model.specs.Clients.{ClientState, client_takes, line_of}
 use Rattle.far_model.specs.Controller.{ControllerState, controller_takes, wanted, evict_key, tick, ready}
 use Rattle.far_model.specs.Events.{Keeping, happens_with, handled, delivers, ticks, restarts, does_order, client_turn, server_turn, controller_turn, reply_message, next_sent, is_enabled, can_deliver, can_deliver_some, is_order_due, is_order_enabled, is_switch}
-use Rattle.far_model.specs.Flights.{IsFor}
+use Rattle.far_invariants.specs.Flights.{IsFor}
 use Rattle.far_model.specs.Log.{is_read}
 use Rattle.far_model.specs.Members.{Each}
 use Rattle.far_model.specs.Parties.{Turn, idle, messages_from}
-use Rattle.far_model.specs.Past.{SnapshotStart, Past, starts_by, starts_with, remembers}
-use Rattle.far_model.specs.Replies.{RepliesAt, RepliesToMessage, KeepersAnswer}
+use Rattle.far_invariants.specs.Past.{SnapshotStart, Past, starts_by, starts_with, remembers}
+use Rattle.far_model.specs.Replies.{RepliesAt, RepliesToMessage, AnswersInKind}
 use Rattle.far_model.specs.State.{State, client_at, opening}
 use Rattle.far_model.proofs.Members.{among_at}
 use Rattle.snapshot_laws.specs.Owed.{Needs}
@@ -123,7 +123,7 @@ module _ {tells : Bool} (plan : PlanView) (s : State) (starts : List SnapshotSta
 
 -- what is on its way for snapshots before an event is so after it
 module _ {tells : Bool} where
-  pub event_flies_with : (plan : PlanView) (k : Keeping) (s : State) (p : Past) (e : Event) → SnapshotsStand tells plan s p.starts → SnapshotsInFlight plan s p.starts → Needs tells plan s → AreRouted plan s → KeepersAnswer s e k → is_enabled plan s e ≡ true → SnapshotsInFlight plan (happens_with plan k s e) (remembers s p e).starts
+  pub event_flies_with : (plan : PlanView) (k : Keeping) (s : State) (p : Past) (e : Event) → SnapshotsStand tells plan s p.starts → SnapshotsInFlight plan s p.starts → Needs tells plan s → AreRouted plan s → AnswersInKind s e k → is_enabled plan s e ≡ true → SnapshotsInFlight plan (happens_with plan k s e) (remembers s p e).starts
   event_flies_with plan k s p (Send c) h f owed routed answers can = subst (SnapshotsInFlight plan (happens_with plan k s (Send c))) (sym (append-nil p.starts))
       (calm_flies plan s (happens_with plan k s (Send c)) p.starts refl refl (λ k. refl) (serving_all s.bag (messages_from (Client c) (next_sent plan.ops c (client_at s c) (client_at s c).left).out)
       (no_parts (Client c) (next_sent plan.ops c (client_at s c) (client_at s c).left).out (next_foreign plan c (client_at s c) (client_at s c).left))) f)

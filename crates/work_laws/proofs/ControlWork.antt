@@ -19,8 +19,8 @@ use Rattle.far_base.specs.declared.slot_state.Due.{Due}
 use Rattle.far_base.specs.declared.slot_state.Due.TheVariants.{Peeked, Stored as StoredDue, Removed, Over}
 use Rattle.far_model.specs.Controller.{ControllerState, opening_controller, to_clients, to_servers, wanted, evicts, acked_state, acknowledged, evicts_on, peek_answered, removal_answered, start_snapshot, completes, job_turn, snapshot_begun, part_came, store_outs, round_turn, told_round, client_told, round_stored, store_answered, top_told, controller_takes, with_state, is_evicting_job, same_came, same_part, is_last_present}
 use Rattle.far_model.specs.Evictions.{Eviction, Send, Store as StoreNext, Done, Kept, is_due, is_free, is_held, is_admitting, state_at, key_in, tag_in, begins_eviction, peek_of, after_peek, after_store, after_removal, shown_item, waits_for, waits_job, storing, removing, TRIES}
-use Rattle.far_model.specs.Flights.{IsFor, Subject, OfOperation, OfAdmission, OfEviction, OfJob, OfSnapshot, OfRound, OfNone, subject}
-use Rattle.far_model.specs.Invariants.{IsGiven}
+use Rattle.far_invariants.specs.Flights.{IsFor, Subject, OfOperation, OfAdmission, OfEviction, OfJob, OfSnapshot, OfRound, OfNone, subject}
+use Rattle.far_invariants.specs.Invariants.{IsGiven}
 use Rattle.far_model.specs.Members.{Among}
 use Rattle.far_model.specs.Parties.{Turn, idle, to_party, messages_from}
 use Rattle.far_model.specs.Rounds.{Round, asks_tops, has_told, telling_at}

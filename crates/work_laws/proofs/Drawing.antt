@@ -29,15 +29,14 @@ use Rattle.far_model.specs.Log.{is_read}
 use Rattle.far_model.specs.Members.{Among, Each}
 use Rattle.far_model.specs.Parties.{Turn, idle, messages_from, to_party}
 use Rattle.far_model.specs.Pass.{pass, pass_notes, passed_out}
-use Rattle.far_model.specs.Replies.{IsReplyTo, KeptEvent, RepliesAt, RepliesToMessage, run_with}
+use Rattle.far_model.specs.Replies.{IsReplyTo, KeptEvent, RepliesAt, RepliesToMessage, run_with, ceiling_at, ceiling_by, ceiling_after, ReplyWithin, AnswersWithin, AnswersMessageWithin, ceiling_with, KeepersAnswer, IsRunWith}
 use Rattle.far_model.specs.Rounds.{Round, asks_tops, greatest_top, has_told, telling_at}
-use Rattle.far_model.specs.Servers.{record_of, server_keeps, stored}
+use Rattle.far_model.specs.Servers.{record_of, server_keeps, stored, put_number, reply_number}
 use Rattle.far_model.specs.Snapshots.{Job, SnapshotView, has_begun, has_part, is_whole, number_or_none, part_reads, view_in, view_records, with_same}
 use Rattle.far_model.specs.State.{State, client_at, clients_from, line_at, nobody, noted, now, opening, records_at}
 use Rattle.far_model.specs.View.{empty_slot}
 use Rattle.far_model.proofs.Members.{among_append, among_at, among_remove}
 use Rattle.flight_laws.proofs.Lists.{all_set, get_or-replicate_default, by_test}
-use Rattle.work_laws.specs.Ceilings.{AnswersMessageWithin, AnswersWithin, ceiling_by, IsRunWithin, KeepersAnswerWithin, ReplyWithin, ceiling_after, ceiling_at, ceiling_with, put_number, reply_number}
 use Rattle.work_laws.specs.Drawn.{ClientWithin, ControllerWithin, EvictionWithin, JobWithin, NumbersAreDrawn, NumbersWithin, RecordsWithin, RoundWithin, ViewsWithin, begun_number, drawn_count, is_numbering, number_in, number_of, part_number}
 use Rattle.work_laws.proofs.Counts.{count_append, count_cons}
 use Rattle.work_laws.proofs.Moves.{sent_is}
@@ -450,7 +449,7 @@ order_in plan ceiling s (Some (StopAtOrder kind times)) h = with_log (drawn_coun
   controller = h.controller;
 }) (log_more s (Stopped ∷ []))
 
-pub step_in : (plan : PlanView) (k : Keeping) (ceiling : ℕ) (s : State) (e : Event) → NumbersAreDrawn ceiling s → KeepersAnswerWithin ceiling s e k → NumbersAreDrawn (ceiling_after s e ceiling) (happens_with plan k s e)
+pub step_in : (plan : PlanView) (k : Keeping) (ceiling : ℕ) (s : State) (e : Event) → NumbersAreDrawn ceiling s → KeepersAnswer ceiling s e k → NumbersAreDrawn (ceiling_after s e ceiling) (happens_with plan k s e)
 step_in plan k ceiling s (Send c) h ans = go (client_at s c).left
   where
     request_in : (b : Bool) (op : ℕ) (line : OpLine) → number_in (cond b (GetReq c op line.key) (WriteReq c op line.key line.body)) ≤ drawn_count s.log
@@ -516,6 +515,6 @@ opens_in plan = record {
     clients ops n (suc more) zero = record { released = omega arith; preserved = tt }
     clients ops n (suc more) (suc c) = clients ops (suc n) more c
 
-pub run_in : (plan : PlanView) (ceiling : ℕ) (s : State) (events : List KeptEvent) → NumbersAreDrawn ceiling s → IsRunWithin plan ceiling s events → NumbersAreDrawn (ceiling_with plan ceiling s events) (run_with plan s events)
+pub run_in : (plan : PlanView) (ceiling : ℕ) (s : State) (events : List KeptEvent) → NumbersAreDrawn ceiling s → IsRunWith plan ceiling s events → NumbersAreDrawn (ceiling_with plan ceiling s events) (run_with plan s events)
 run_in plan ceiling s [] h r = h
 run_in plan ceiling s (e ∷ es) h r = run_in plan (ceiling_after s e.event ceiling) (happens_with plan e.keeping s e.event) es (step_in plan e.keeping ceiling s e.event h r.1) r.2

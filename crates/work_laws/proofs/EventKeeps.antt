@@ -18,8 +18,8 @@ use Rattle.far_base.specs.declared.slot_state.SlotState.TheVariants.{Free, Admit
 use Rattle.far_model.specs.Controller.{ControllerState, controller_takes, evict_key, ready, ready_in, snapshot_stores, start_recovery, start_snapshot, store_of, stores_of, tick, to_clients, wanted}
 use Rattle.far_model.specs.Events.{Keeping, can_recover, happens_with, is_switch, restarts, stops}
 use Rattle.far_model.specs.Evictions.{state_at}
-use Rattle.far_model.specs.Flights.{IsFor, Subject, OfOperation, OfAdmission, OfEviction, OfJob, OfSnapshot, OfRound, OfNone, subject, open_count}
-use Rattle.far_model.specs.Invariants.{IsGiven, admission_count, admits_under, is_admission_of}
+use Rattle.far_invariants.specs.Flights.{IsFor, Subject, OfOperation, OfAdmission, OfEviction, OfJob, OfSnapshot, OfRound, OfNone, subject, open_count}
+use Rattle.far_invariants.specs.Invariants.{IsGiven, admission_count, admits_under, is_admission_of}
 use Rattle.far_model.specs.Members.{Among}
 use Rattle.far_model.specs.Parties.{messages_from}
 use Rattle.far_model.specs.Rounds.{Round, has_told, no_telling}
@@ -304,7 +304,7 @@ recovery_keeps plan k s valid flight h able = record {
     fits : (x : Message) → Among x s.bag ⊎ (Among x asks ⊎ Among x stores) → AdmissionFits t.controller x.packet
     fits x (inl a) = of x.packet (flight.routed.messages x a).source (calm x a)
       where
-        of : (p : Packet) → Rattle.far_model.specs.Flights.IsFrom p x.from → is_switch x.from ≡ false → AdmissionFits t.controller p
+        of : (p : Packet) → Rattle.far_invariants.specs.Flights.IsFrom p x.from → is_switch x.from ≡ false → AdmissionFits t.controller p
         of (Admit epoch i key tag) from off = λ none. absurd (none-some _ (sym none))
         of (AdmitAck i tag) from off = absurd (true≢false (sym (ap is_switch from) ∙ off))
         of _ from off = tt

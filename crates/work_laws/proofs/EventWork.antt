@@ -26,12 +26,12 @@ use Rattle.far_model.specs.Clients.{ClientState, answered_record, client_takes, 
 use Rattle.far_model.specs.Controller.{ControllerState, controller_takes, evict_key, is_evicting_job, numbered_records, opening_controller, ready, ready_in, snapshot_stores, start_recovery, start_snapshot, stores_of, tick, to_clients, wanted}
 use Rattle.far_model.specs.Events.{Keeping, can_deliver_some, can_recover, can_send, client_turn, controller_turn, delivers, does_order, handled, happens_with, has_next, is_enabled, is_order_due, next_sent, reply_goes_to, restarts, server_turn, switch_turn, ticks}
 use Rattle.far_model.specs.Evictions.{Eviction, is_due, waits_for, waits_job}
-use Rattle.far_model.specs.Flights.{IsFor, subject}
+use Rattle.far_invariants.specs.Flights.{IsFor, subject}
 use Rattle.far_model.specs.KeyedRecords.{put_record}
 use Rattle.far_model.specs.Log.{is_read}
 use Rattle.far_model.specs.Parties.{Turn, idle, messages_from}
 use Rattle.far_model.specs.Pass.{pass}
-use Rattle.far_model.specs.Replies.{KeepersAnswer, RepliesAt, RepliesToMessage}
+use Rattle.far_model.specs.Replies.{RepliesAt, RepliesToMessage, AnswersInKind}
 use Rattle.far_model.specs.Rounds.{Round, greatest_top, has_told}
 use Rattle.far_model.specs.Snapshots.{view_records}
 use Rattle.far_model.specs.State.{State, client_at, nobody}
@@ -395,7 +395,7 @@ order_lowers plan s (Some (StopAtOrder kind times)) works e due =
 
 -- ---- every event
 
-pub step_lowers : (plan : PlanView) (k : Keeping) (s : State) (e : Event) → Works plan s → KeepersAnswer s e k → is_enabled plan s e ≡ true → suc (work_left plan (happens_with plan k s e)) ≤ work_left plan s
+pub step_lowers : (plan : PlanView) (k : Keeping) (s : State) (e : Event) → Works plan s → AnswersInKind s e k → is_enabled plan s e ≡ true → suc (work_left plan (happens_with plan k s e)) ≤ work_left plan s
 step_lowers plan k s (Send c) works ans able = sending_lowers plan k s c able
 step_lowers plan k s (Deliver i) works ans able = by (slice_get s.bag i) refl ans able
   where

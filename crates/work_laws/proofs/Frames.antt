@@ -11,8 +11,8 @@ use Rattle.far_base.specs.declared.slot_state.SlotState.TheVariants.{Free, Admit
 use Rattle.far_model.specs.Controller.{ControllerState}
 use Rattle.far_model.specs.Events.{is_switch}
 use Rattle.far_model.specs.Evictions.{Eviction, state_at}
-use Rattle.far_model.specs.Flights.{Subject, OfOperation, OfAdmission, OfEviction, OfJob, OfSnapshot, OfRound, OfNone, subject}
-use Rattle.far_model.specs.Invariants.{IsGiven, is_admission_of, admits_under, admission_count}
+use Rattle.far_invariants.specs.Flights.{Subject, OfOperation, OfAdmission, OfEviction, OfJob, OfSnapshot, OfRound, OfNone, subject}
+use Rattle.far_invariants.specs.Invariants.{IsGiven, is_admission_of, admits_under, admission_count}
 use Rattle.far_model.specs.Members.{Among}
 use Rattle.far_model.specs.Rounds.{Round}
 use Rattle.far_model.specs.State.{State}

@@ -9,7 +9,7 @@ use Rattle.far_base.specs.declared.packet.Packet.TheVariants.{GetReq, WriteReq, 
 use Rattle.far_base.specs.declared.party.Party.TheVariants.{Switch, Controller}
 use Rattle.far_base.specs.declared.plan.Config.{Config}
 use Rattle.far_base.specs.declared.record.Record.{Record}
-use Rattle.far_model.specs.Flights.{IsFor, subject}
+use Rattle.far_invariants.specs.Flights.{IsFor, subject}
 use Rattle.far_model.specs.Members.{Among}
 use Rattle.far_model.specs.Pass.{Passed, pass, passed_out, outs_of, dropped, touched, part_of, with_slot, with_taken, changes, absorbing, raised, reply_passes, is_as_before, sent_to}
 use Rattle.far_model.specs.View.{SlotView, SwitchView, bind_key, empty_slot, entry_place, held_record, slot_at, unbound}

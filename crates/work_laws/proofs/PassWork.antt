@@ -10,7 +10,7 @@ use Rattle.far_base.specs.declared.packet.Packet.TheVariants.{GetReq, WriteReq, 
 use Rattle.far_base.specs.declared.party.Party.TheVariants.{Client, Switch, Server, Controller}
 use Rattle.far_base.specs.declared.plan.Config.{Config}
 use Rattle.far_model.specs.Controller.{ControllerState}
-use Rattle.far_model.specs.Flights.{IsFor}
+use Rattle.far_invariants.specs.Flights.{IsFor}
 use Rattle.far_model.specs.Parties.{messages_from}
 use Rattle.far_model.specs.Pass.{Passed, pass, passed_out, dropped, with_slot, changes, reply_passes, numbered, absorbing, part_packet, is_as_before}
 use Rattle.far_model.specs.View.{SlotView, SwitchView, slot_at, empty_slot, shown_body, entry_place, server_of, held_record}

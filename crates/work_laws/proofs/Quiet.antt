@@ -21,13 +21,13 @@ use Rattle.far_base.specs.declared.slot_state.SlotState.{SlotState}
 use Rattle.far_base.specs.declared.slot_state.SlotState.TheVariants.{Free, Admitting, Held, Evicting}
 use Rattle.far_model.specs.Clients.{ClientState}
 use Rattle.far_model.specs.Controller.{ControllerState, ready, ready_in, tick, tick_free, tick_room, tick_want, tick_wants}
-use Rattle.far_model.specs.Events.{counted_for, can_deliver, can_recover, can_send, choice_if, choices, deliver_choices, has_next, is_none_left, is_order_due, is_order_enabled, is_possible, is_switch, send_choices}
+use Rattle.far_model.specs.Events.{counted_for, can_deliver, can_recover, can_send, choice_if, choices, deliver_choices, has_next, is_order_due, is_order_enabled, is_possible, is_switch, send_choices}
 use Rattle.far_model.specs.Evictions.{Eviction, first_place, has_key, is_free, is_held, state_at, victim}
-use Rattle.far_model.specs.Flights.{IsFor, IsFrom, flights_of, open_count, subject}
-use Rattle.far_model.specs.Invariants.{admission_count}
-use Rattle.far_model.specs.Members.{Among}
+use Rattle.far_invariants.specs.Flights.{IsFor, IsFrom, flights_of, open_count, subject}
+use Rattle.far_invariants.specs.Invariants.{admission_count}
+use Rattle.far_model.specs.Members.{Among, is_empty}
 use Rattle.far_model.specs.Rounds.{Round, Telling, asks_tops, greatest_top, has_told, no_telling, ready_counter, telling_at}
-use Rattle.far_model.specs.Runs.{is_done, is_empty_bag, is_finished, is_quiet}
+use Rattle.far_model.specs.Runs.{is_done, is_finished, is_quiet}
 use Rattle.far_model.specs.State.{State, client_at}
 use Rattle.flight_laws.proofs.Finishing.{none_sends}
 use Rattle.flight_laws.proofs.Handling.{IsInFlight}
@@ -66,11 +66,11 @@ not_false b h = ap not h
 opposite : {X : Type 0} (b : Bool) → b ≡ true → b ≡ false → X
 opposite b p q = absurd (true≢false (sym p ∙ q))
 
-none_append : (xs ys : List Event) → is_none_left (xs ++ ys) ≡ is_none_left xs && is_none_left ys
+none_append : (xs ys : List Event) → is_empty (xs ++ ys) ≡ is_empty xs && is_empty ys
 none_append [] ys = refl
 none_append (x ∷ xs) ys = refl
 
-none_if : (b : Bool) (e : Event) → is_none_left (choice_if b e) ≡ not b
+none_if : (b : Bool) (e : Event) → is_empty (choice_if b e) ≡ not b
 none_if true e = refl
 none_if false e = refl
 
@@ -81,19 +81,19 @@ none_is (Some x) e = absurd (true≢false e)
 some_is : {X : Type 0} (o : Option X) → o ≡ None → is_some o ≡ false
 some_is o e = ap is_some e
 
-empty_is : {X : Type 0} (xs : List X) → is_empty_bag xs ≡ true → xs ≡ []
+empty_is : {X : Type 0} (xs : List X) → is_empty xs ≡ true → xs ≡ []
 empty_is [] e = refl
 empty_is (x ∷ xs) e = absurd (true≢false (sym e))
 
 -- ---- where all is done nothing can happen
 
-done_sends : (clients : List ClientState) (n : ℕ) → list_all is_done clients ≡ true → is_none_left (send_choices n clients) ≡ true
+done_sends : (clients : List ClientState) (n : ℕ) → list_all is_done clients ≡ true → is_empty (send_choices n clients) ≡ true
 done_sends [] n h = refl
 done_sends (x ∷ xs) n h =
     let p = and_parts (is_done x) (list_all is_done xs) h in
     let q = and_parts (not (is_some x.waits)) (not (has_next x.left)) p.0 in
     let off : can_send x ≡ false = ap (λ b. not (is_some x.waits) && b) (not_true (has_next x.left) q.1) ∙ and_none (not (is_some x.waits)) in
-    ap (λ b. is_none_left (cond b (Send n ∷ send_choices (suc n) xs) (send_choices (suc n) xs))) off ∙ done_sends xs (suc n) p.1
+    ap (λ b. is_empty (cond b (Send n ∷ send_choices (suc n) xs) (send_choices (suc n) xs))) off ∙ done_sends xs (suc n) p.1
   where
     and_none : (b : Bool) → b && false ≡ false
     and_none true = refl
@@ -103,11 +103,11 @@ past_end : {X : Type 0} (xs : List X) → slice_get xs (length xs) ≡ None
 past_end [] = refl
 past_end (x ∷ xs) = past_end xs
 
-five_none : (a b c d e : List Event) → is_none_left (a ++ b ++ c ++ d ++ e) ≡ (((is_none_left a && is_none_left b) && is_none_left c) && is_none_left d) && is_none_left e
-five_none a b c d e = none_append (a ++ b ++ c ++ d) e ∙ ap (λ x. x && is_none_left e) (none_append (a ++ b ++ c) d ∙ ap (λ x. x && is_none_left d) (none_append (a ++ b) c ∙ ap (λ x. x && is_none_left c) (none_append a b)))
+five_none : (a b c d e : List Event) → is_empty (a ++ b ++ c ++ d ++ e) ≡ (((is_empty a && is_empty b) && is_empty c) && is_empty d) && is_empty e
+five_none a b c d e = none_append (a ++ b ++ c ++ d) e ∙ ap (λ x. x && is_empty e) (none_append (a ++ b ++ c) d ∙ ap (λ x. x && is_empty d) (none_append (a ++ b) c ∙ ap (λ x. x && is_empty c) (none_append a b)))
 
-each_none : (s : State) → is_none_left (send_choices 0 s.clients) ≡ true → is_none_left (deliver_choices s.running 0 s.bag) ≡ true → is_none_left (choice_if (is_some (tick s.controller)) Tick) ≡ true
-    → is_none_left (choice_if (can_recover s) Recover) ≡ true → is_none_left (choice_if (is_some (ready s.controller)) Restart) ≡ true → is_none_left (choices s) ≡ true
+each_none : (s : State) → is_empty (send_choices 0 s.clients) ≡ true → is_empty (deliver_choices s.running 0 s.bag) ≡ true → is_empty (choice_if (is_some (tick s.controller)) Tick) ≡ true
+    → is_empty (choice_if (can_recover s) Recover) ≡ true → is_empty (choice_if (is_some (ready s.controller)) Restart) ≡ true → is_empty (choices s) ≡ true
 each_none s a b c d e = five_none (send_choices 0 s.clients) (deliver_choices s.running 0 s.bag) (choice_if (is_some (tick s.controller)) Tick) (choice_if (can_recover s) Recover) (choice_if (is_some (ready s.controller)) Restart)
     ∙ both_true _ _ (both_true _ _ (both_true _ _ (both_true _ _ a b) c) d) e
 
@@ -116,15 +116,15 @@ finished_quiet plan s h =
     let a = and_parts (list_all is_done s.clients) _ h in
     let b = and_parts (nat_eq s.done (length plan.orders)) _ a.1 in
     let c = and_parts s.running _ b.1 in
-    let d = and_parts (is_empty_bag s.bag) _ c.1 in
-    let e = and_parts (is_empty_bag s.controller.wants) _ d.1 in
+    let d = and_parts (is_empty s.bag) _ c.1 in
+    let e = and_parts (is_empty s.controller.wants) _ d.1 in
     let f = and_parts (not (is_some s.controller.eviction)) _ e.1 in
     let g = and_parts (not (is_some s.controller.job)) (not (is_some s.controller.round)) f.1 in
     let round : s.controller.round ≡ None = none_is s.controller.round (not_true _ g.1) in
     let done : s.done ≡ length plan.orders = eqb-true s.done (length plan.orders) b.0 in
     let orders : is_order_enabled plan s ≡ false = ap (is_order_due s) (ap (slice_get plan.orders) done ∙ past_end plan.orders) in
     let sends = done_sends s.clients 0 a.0 in
-    let delivers : is_none_left (deliver_choices s.running 0 s.bag) ≡ true = ap (λ xs. is_none_left (deliver_choices s.running 0 xs)) (empty_is s.bag d.0) in
+    let delivers : is_empty (deliver_choices s.running 0 s.bag) ≡ true = ap (λ xs. is_empty (deliver_choices s.running 0 xs)) (empty_is s.bag d.0) in
     let ticks : is_some (tick s.controller) ≡ false = ap (λ o. is_some (cond (is_some o) None (tick_wants s.controller s.controller.wants))) round ∙ ap (λ ws. is_some (tick_wants s.controller ws)) (empty_is s.controller.wants e.0) in
     let recovers : can_recover s ≡ false = ap (λ r. not r && (not (is_some s.controller.round) && not (list_any (λ (m : Message). is_switch m.from) s.bag))) c.0 in
     let restarts : is_some (ready s.controller) ≡ false = ap (λ r. is_some (ready_in r)) round in
@@ -133,19 +133,19 @@ finished_quiet plan s h =
 -- ---- what cannot happen
 
 pub record IsStill (s : State) : Type 0 where
-  pub sends : is_none_left (send_choices 0 s.clients) ≡ true
-  pub delivers : is_none_left (deliver_choices s.running 0 s.bag) ≡ true
+  pub sends : is_empty (send_choices 0 s.clients) ≡ true
+  pub delivers : is_empty (deliver_choices s.running 0 s.bag) ≡ true
   pub ticks : is_some (tick s.controller) ≡ false
   pub recovers : can_recover s ≡ false
   pub restarts : is_some (ready s.controller) ≡ false
 
-still : (s : State) → is_none_left (choices s) ≡ true → IsStill s
+still : (s : State) → is_empty (choices s) ≡ true → IsStill s
 still s h =
     let z = sym (five_none (send_choices 0 s.clients) (deliver_choices s.running 0 s.bag) (choice_if (is_some (tick s.controller)) Tick) (choice_if (can_recover s) Recover) (choice_if (is_some (ready s.controller)) Restart)) ∙ h in
-    let d = and_parts (((is_none_left (send_choices 0 s.clients) && is_none_left (deliver_choices s.running 0 s.bag)) && is_none_left (choice_if (is_some (tick s.controller)) Tick)) && is_none_left (choice_if (can_recover s) Recover)) _ z in
-    let c = and_parts ((is_none_left (send_choices 0 s.clients) && is_none_left (deliver_choices s.running 0 s.bag)) && is_none_left (choice_if (is_some (tick s.controller)) Tick)) _ d.0 in
-    let b = and_parts (is_none_left (send_choices 0 s.clients) && is_none_left (deliver_choices s.running 0 s.bag)) _ c.0 in
-    let a = and_parts (is_none_left (send_choices 0 s.clients)) _ b.0 in
+    let d = and_parts (((is_empty (send_choices 0 s.clients) && is_empty (deliver_choices s.running 0 s.bag)) && is_empty (choice_if (is_some (tick s.controller)) Tick)) && is_empty (choice_if (can_recover s) Recover)) _ z in
+    let c = and_parts ((is_empty (send_choices 0 s.clients) && is_empty (deliver_choices s.running 0 s.bag)) && is_empty (choice_if (is_some (tick s.controller)) Tick)) _ d.0 in
+    let b = and_parts (is_empty (send_choices 0 s.clients) && is_empty (deliver_choices s.running 0 s.bag)) _ c.0 in
+    let a = and_parts (is_empty (send_choices 0 s.clients)) _ b.0 in
     record {
       sends = a.0;
       delivers = a.1;
@@ -154,12 +154,12 @@ still s h =
       restarts = not_true _ (sym (none_if (is_some (ready s.controller)) Restart) ∙ d.1);
     }
 
-none_deliver : (running : Bool) (n : ℕ) (bag : List Message) (m : Message) → is_none_left (deliver_choices running n bag) ≡ true → Among m bag → can_deliver running m ≡ false
+none_deliver : (running : Bool) (n : ℕ) (bag : List Message) (m : Message) → is_empty (deliver_choices running n bag) ≡ true → Among m bag → can_deliver running m ≡ false
 none_deliver running n [] m h a = absurd a
 none_deliver running n (x ∷ xs) m h a = go (can_deliver running x) refl (λ k b. none_deliver running (suc n) xs m k b) h a
   where
-    go : (b : Bool) → can_deliver running x ≡ b → (is_none_left (deliver_choices running (suc n) xs) ≡ true → Among m xs → can_deliver running m ≡ false)
-        → is_none_left (cond b (Deliver n ∷ deliver_choices running (suc n) xs) (deliver_choices running (suc n) xs)) ≡ true → Among m (x ∷ xs) → can_deliver running m ≡ false
+    go : (b : Bool) → can_deliver running x ≡ b → (is_empty (deliver_choices running (suc n) xs) ≡ true → Among m xs → can_deliver running m ≡ false)
+        → is_empty (cond b (Deliver n ∷ deliver_choices running (suc n) xs) (deliver_choices running (suc n) xs)) ≡ true → Among m (x ∷ xs) → can_deliver running m ≡ false
     go true e f k b = absurd (true≢false (sym k))
     go false e f k (inl same) = ap (can_deliver running) same ∙ e
     go false e f k (inr b) = f k b
@@ -281,7 +281,7 @@ module _ (plan : PlanView) (valid : IsPlan plan) (s : State) (h : Flies plan s) 
         go Free e = refl
         go (Held key tag) e = refl
         go (Admitting key tag) e =
-            let one = ap (λ bag. count_by (λ (m : Message). Rattle.far_model.specs.Invariants.is_admission_of i s.controller.epoch m.packet) bag) bag_none in
+            let one = ap (λ bag. count_by (λ (m : Message). Rattle.far_invariants.specs.Invariants.is_admission_of i s.controller.epoch m.packet) bag) bag_none in
             let count = h.admissions.one round_none i in
             let is : admission_count (state_at s.controller.slots i) ≡ 1 = ap admission_count e in
             absurd (omega (arith, one, count, is))
@@ -313,7 +313,7 @@ module _ (plan : PlanView) (valid : IsPlan plan) (s : State) (h : Flies plan s) 
         go [] k = refl
         go (key ∷ keys) k = absurd (want key (first_place (has_key key) s.controller.slots) k)
 
-    done_is : is_order_enabled plan s ≡ false → is_none_left (choices s) ≡ true → s.done ≡ length plan.orders
+    done_is : is_order_enabled plan s ≡ false → is_empty (choices s) ≡ true → s.done ≡ length plan.orders
     done_is off none = go (slice_get plan.orders s.done) refl off
       where
         possible : (o : Order) → is_possible s o ≡ true
@@ -343,8 +343,8 @@ module _ (plan : PlanView) (valid : IsPlan plan) (s : State) (h : Flies plan s) 
         waits None e = refl
         waits (Some op) e = absurd (omega (arith, e))
 
-    all_done : is_order_enabled plan s ≡ false → is_none_left (choices s) ≡ true → is_finished plan s ≡ true
-    all_done off none = both_true _ _ clients_done (both_true _ _ (eq-eqb s.done (length plan.orders) (done_is off none)) (both_true _ _ running (both_true _ _ (ap is_empty_bag bag_none) (both_true _ _ (ap is_empty_bag wants_none)
+    all_done : is_order_enabled plan s ≡ false → is_empty (choices s) ≡ true → is_finished plan s ≡ true
+    all_done off none = both_true _ _ clients_done (both_true _ _ (eq-eqb s.done (length plan.orders) (done_is off none)) (both_true _ _ running (both_true _ _ (ap is_empty bag_none) (both_true _ _ (ap is_empty wants_none)
         (both_true _ _ (not_false _ (some_is _ eviction_none)) (both_true _ _ (not_false _ (some_is _ job_none)) (not_false _ (some_is _ round_none))))))))
 
   -- ---- a stopped switch
@@ -485,10 +485,10 @@ module _ (plan : PlanView) (valid : IsPlan plan) (s : State) (h : Flies plan s) 
 
 quiet_finished : (plan : PlanView) (s : State) → IsPlan plan → Flies plan s → is_quiet plan s ≡ true → is_finished plan s ≡ true
 quiet_finished plan s valid h q =
-    let p = and_parts (not (is_order_enabled plan s)) (is_none_left (choices s)) q in
+    let p = and_parts (not (is_order_enabled plan s)) (is_empty (choices s)) q in
     go s.running refl (not_true _ p.0) p.1
   where
-    go : (b : Bool) → s.running ≡ b → is_order_enabled plan s ≡ false → is_none_left (choices s) ≡ true → is_finished plan s ≡ true
+    go : (b : Bool) → s.running ≡ b → is_order_enabled plan s ≡ false → is_empty (choices s) ≡ true → is_finished plan s ≡ true
     go true e off none = all_done plan valid s h (still s none) e off none
     go false e off none = absurd (never plan valid s h (still s none) e)
 

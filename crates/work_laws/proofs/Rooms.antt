@@ -5,7 +5,7 @@ use Rattle.std.specs.List.{count_by, remove, sum_by}
 use Rattle.std.proofs.lemmas.List.{map-append}
 use Rattle.std.proofs.lemmas.List.Sums.{sum_by-cons}
 use Rattle.std.proofs.lemmas.Bool.{and_parts}
-use Rattle.far_model.specs.Replies.{IsRunWith, KeptEvent, run_with}
+use Rattle.far_model.specs.Replies.{IsRunWith, KeptEvent, run_with, ceiling_after}
 use Rattle.far_base.specs.PlanView.{PlanView}
 use Rattle.far_base.specs.declared.event.Event.{Event}
 use Rattle.far_base.specs.declared.event.Event.TheVariants.{Send, Deliver, Tick, Recover, Restart, Order as OrderOf}
@@ -289,9 +289,9 @@ step_draws plan k s (OrderOf j) h able =
     let d = order_draws plan s (slice_get plan.orders j) h (subst (λ n. is_order_due s (slice_get plan.orders n) ≡ true) (sym same) (and_parts _ _ able).1) in
     record { tags = d.tags; ids = d.ids; rounds = d.rounds; epochs = d.epochs; jobs = d.jobs }
 
-pub run_draws : (plan : PlanView) (s : State) (events : List KeptEvent) → DrawsWithSteps s → IsRunWith plan s events → DrawsWithSteps (run_with plan s events)
-run_draws plan s [] h r = h
-run_draws plan s (e ∷ es) h r = run_draws plan (happens_with plan e.keeping s e.event) es (step_draws plan e.keeping s e.event h r.0) r.2
+pub run_draws : (plan : PlanView) (ceiling : ℕ) (s : State) (events : List KeptEvent) → DrawsWithSteps s → IsRunWith plan ceiling s events → DrawsWithSteps (run_with plan s events)
+run_draws plan ceiling s [] h r = h
+run_draws plan ceiling s (e ∷ es) h r = run_draws plan (ceiling_after s e.event ceiling) (happens_with plan e.keeping s e.event) es (step_draws plan e.keeping s e.event h r.0) r.2
 
 pub opens_draws : (plan : PlanView) → DrawsWithSteps (opening plan)
 opens_draws plan = record { tags = omega arith; ids = omega arith; rounds = omega arith; epochs = omega arith; jobs = omega arith }

@@ -11,7 +11,7 @@ use Rattle.far_base.specs.declared.party.Party.TheVariants.{Switch, Controller}
 use Rattle.far_base.specs.declared.record.Record.{Record}
 use Rattle.far_model.specs.Controller.{ControllerState, completes, job_turn, part_came, snapshot_begun, start_snapshot, to_clients, same_came, same_part, is_last_present, start_packet}
 use Rattle.far_model.specs.Events.{controller_turn}
-use Rattle.far_model.specs.Flights.{Subject, OfSnapshot, OfNone, subject}
+use Rattle.far_invariants.specs.Flights.{Subject, OfSnapshot, OfNone, subject}
 use Rattle.far_model.specs.Members.{Among}
 use Rattle.far_model.specs.Parties.{Turn, idle, messages_from, to_party}
 use Rattle.far_model.specs.Snapshots.{Job, completed, has_begun, has_part, is_whole, part_reads, view_in, with_same, with_part}

@@ -22,12 +22,12 @@ use Rattle.far_model.specs.Clients.{ClientState, line_of, request, script}
 use Rattle.far_model.specs.Controller.{ControllerState, ready, tick}
 use Rattle.far_model.specs.Events.{Keeping, can_deliver_some, can_send, client_turn, controller_turn, delivers, does_order, handled, happens_with, has_next, is_enabled, is_order_due, next_sent, restarts, ticks}
 use Rattle.far_model.specs.Evictions.{state_at}
-use Rattle.far_model.specs.Flights.{IsFor, OfOperation, Subject, subject}
-use Rattle.far_model.specs.Invariants.{IsGiven}
+use Rattle.far_invariants.specs.Flights.{IsFor, OfOperation, Subject, subject}
+use Rattle.far_invariants.specs.Invariants.{IsGiven}
 use Rattle.far_model.specs.Log.{is_read}
 use Rattle.far_model.specs.Members.{Among}
 use Rattle.far_model.specs.Parties.{Turn}
-use Rattle.far_model.specs.Replies.{IsRunWith, KeepersAnswer, KeptEvent, RepliesAt, RepliesToMessage, run_with}
+use Rattle.far_model.specs.Replies.{IsRunWith, KeptEvent, RepliesAt, RepliesToMessage, run_with, AnswersInKind, ceiling_after}
 use Rattle.far_model.specs.Rounds.{Round}
 use Rattle.far_model.specs.State.{State, client_at, clients_from, nobody, opening}
 use Rattle.far_model.specs.View.{SlotView, empty_slot, server_of}
@@ -192,7 +192,7 @@ order_keeps plan s (Some o) h e due = counted_done plan (does_order plan s (Some
 
 -- ---- every event
 
-pub step_keeps : (plan : PlanView) (k : Keeping) (s : State) (e : Event) → IsPlan plan → IsInFlight plan s → Inv plan s → KeepersAnswer s e k → is_enabled plan s e ≡ true → Inv plan (happens_with plan k s e)
+pub step_keeps : (plan : PlanView) (k : Keeping) (s : State) (e : Event) → IsPlan plan → IsInFlight plan s → Inv plan s → AnswersInKind s e k → is_enabled plan s e ≡ true → Inv plan (happens_with plan k s e)
 step_keeps plan k s (Send c) valid flight h ans able = send_keeps plan s c h able (client_at s c).left refl (and_parts (not (is_some (client_at s c).waits)) (has_next (client_at s c).left) able).1
 step_keeps plan k s (Deliver i) valid flight h ans able = by (slice_get s.bag i) refl ans able
   where
@@ -233,7 +233,7 @@ opens plan = record {
     drawn = λ m i tag a e. absurd a;
     fits = λ m a. absurd a;
     meets = λ r m a. absurd a;
-    one = λ none i. sym (ap Rattle.far_model.specs.Invariants.admission_count (free i));
+    one = λ none i. sym (ap Rattle.far_invariants.specs.Invariants.admission_count (free i));
     once = λ tag. omega arith;
     empty = λ r i e. ap (λ (x : SlotView). x.valid) (get_or-replicate_default plan.config.slots i empty_slot);
   };
@@ -277,26 +277,26 @@ sound_works plan s h = record {
 pub sound_flies : (plan : PlanView) (s : State) → Sound plan s → (s.running ≡ true → s.bag ≡ [] → s.controller.job ≡ None) → Flies plan s
 sound_flies plan s h quiet = record { flight = h.flight; sized = h.inv.sized; admissions = h.inv.admissions; evictions = h.inv.evictions; no_job = quiet; rounds = h.inv.rounds }
 
-pub sound_step : (plan : PlanView) (k : Keeping) (s : State) (e : Event) → IsPlan plan → Sound plan s → KeepersAnswer s e k → is_enabled plan s e ≡ true → Sound plan (happens_with plan k s e)
+pub sound_step : (plan : PlanView) (k : Keeping) (s : State) (e : Event) → IsPlan plan → Sound plan s → AnswersInKind s e k → is_enabled plan s e ≡ true → Sound plan (happens_with plan k s e)
 sound_step plan k s e valid h ans able = record { flight = flight_step plan k s e h.flight ans able; inv = step_keeps plan k s e valid h.flight h.inv ans able }
 
 pub sound_opens : (plan : PlanView) → Sound plan (opening plan)
 sound_opens plan = record { flight = flight_opens plan; inv = opens plan }
 
-pub sound_run : (plan : PlanView) (s : State) (events : List KeptEvent) → IsPlan plan → Sound plan s → IsRunWith plan s events → Sound plan (run_with plan s events)
-sound_run plan s [] valid h r = h
-sound_run plan s (e ∷ es) valid h r = sound_run plan (happens_with plan e.keeping s e.event) es valid (sound_step plan e.keeping s e.event valid h r.1 r.0) r.2
+pub sound_run : (plan : PlanView) (ceiling : ℕ) (s : State) (events : List KeptEvent) → IsPlan plan → Sound plan s → IsRunWith plan ceiling s events → Sound plan (run_with plan s events)
+sound_run plan ceiling s [] valid h r = h
+sound_run plan ceiling s (e ∷ es) valid h r = sound_run plan (ceiling_after s e.event ceiling) (happens_with plan e.keeping s e.event) es valid (sound_step plan e.keeping s e.event valid h r.1.kind r.0) r.2
 
-pub sound_lowers : (plan : PlanView) (k : Keeping) (s : State) (e : Event) → Sound plan s → KeepersAnswer s e k → is_enabled plan s e ≡ true → suc (work_left plan (happens_with plan k s e)) ≤ work_left plan s
+pub sound_lowers : (plan : PlanView) (k : Keeping) (s : State) (e : Event) → Sound plan s → AnswersInKind s e k → is_enabled plan s e ≡ true → suc (work_left plan (happens_with plan k s e)) ≤ work_left plan s
 sound_lowers plan k s e h ans able = step_lowers plan k s e (sound_works plan s h) ans able
 
-pub run_spends : (plan : PlanView) (s : State) (events : List KeptEvent) → IsPlan plan → Sound plan s → IsRunWith plan s events → (run_with plan s events).steps + work_left plan (run_with plan s events) ≤ s.steps + work_left plan s
-run_spends plan s [] valid h r = omega arith
-run_spends plan s (e ∷ es) valid h r =
+pub run_spends : (plan : PlanView) (ceiling : ℕ) (s : State) (events : List KeptEvent) → IsPlan plan → Sound plan s → IsRunWith plan ceiling s events → (run_with plan s events).steps + work_left plan (run_with plan s events) ≤ s.steps + work_left plan s
+run_spends plan ceiling s [] valid h r = omega arith
+run_spends plan ceiling s (e ∷ es) valid h r =
     let t = happens_with plan e.keeping s e.event in
-    let less = sound_lowers plan e.keeping s e.event h r.1 r.0 in
+    let less = sound_lowers plan e.keeping s e.event h r.1.kind r.0 in
     let one = step_counted plan e.keeping s e.event r.0 in
-    let later = run_spends plan t es valid (sound_step plan e.keeping s e.event valid h r.1 r.0) r.2 in
+    let later = run_spends plan (ceiling_after s e.event ceiling) t es valid (sound_step plan e.keeping s e.event valid h r.1.kind r.0) r.2 in
     omega (arith, less, one, later)
 
 pub quiet_run : (plan : PlanView) (s : State) → IsPlan plan → Sound plan s → (s.running ≡ true → s.bag ≡ [] → s.controller.job ≡ None) → is_quiet plan s ≡ is_finished plan s

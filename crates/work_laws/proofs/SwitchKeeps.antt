@@ -16,8 +16,8 @@ use Rattle.far_base.specs.declared.plan.Config.{Config}
 use Rattle.far_base.specs.declared.slot_state.SlotState.TheVariants.{Free, Admitting, Evicting}
 use Rattle.far_model.specs.Events.{switch_turn}
 use Rattle.far_model.specs.Evictions.{Eviction, is_free, state_at}
-use Rattle.far_model.specs.Flights.{IsFor, Subject, OfAdmission, OfEviction, OfJob, OfSnapshot, OfRound, OfNone, subject}
-use Rattle.far_model.specs.Invariants.{IsGiven, admission_count, admits_under, is_admission_of}
+use Rattle.far_invariants.specs.Flights.{IsFor, Subject, OfAdmission, OfEviction, OfJob, OfSnapshot, OfRound, OfNone, subject}
+use Rattle.far_invariants.specs.Invariants.{IsGiven, admission_count, admits_under, is_admission_of}
 use Rattle.far_model.specs.Members.{Among}
 use Rattle.far_model.specs.Parties.{messages_from, to_party}
 use Rattle.far_model.specs.Pass.{Passed, dropped, is_slot_there, is_under, pass, passed_out, with_slot, with_taken, part_packet, is_as_before}

@@ -1,6 +1,6 @@
 -- All that holds of what is on its way, in every state of every run.
 use Rattle.far_base.specs.PlanView.{PlanView}
-use Rattle.far_model.specs.Flights.{IsRouted, OneFlightPerOperation}
+use Rattle.far_invariants.specs.Flights.{IsRouted, OneFlightPerOperation}
 use Rattle.far_model.specs.State.{State}
 use Rattle.work_laws.specs.InFlight.{AdmissionsFly, EpochsFit, EvictionsFly, RoundsFly, SnapshotsFly}
 use Rattle.work_laws.specs.Sizes.{IsSized}

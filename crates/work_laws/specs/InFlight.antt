@@ -13,8 +13,8 @@ use Rattle.far_base.specs.declared.slot_state.Due.TheVariants.{Peeked, Stored as
 use Rattle.far_model.specs.Controller.{ControllerState}
 use Rattle.far_model.specs.Events.{is_switch}
 use Rattle.far_model.specs.Evictions.{Eviction, is_due, state_at}
-use Rattle.far_model.specs.Flights.{Subject, OfAdmission, OfEviction, OfJob, OfSnapshot, OfRound, subject}
-use Rattle.far_model.specs.Invariants.{IsGiven, is_admission_of, admits_under, admission_count}
+use Rattle.far_invariants.specs.Flights.{Subject, OfAdmission, OfEviction, OfJob, OfSnapshot, OfRound, subject}
+use Rattle.far_invariants.specs.Invariants.{IsGiven, is_admission_of, admits_under, admission_count}
 use Rattle.far_model.specs.Members.{Among}
 use Rattle.far_model.specs.Rounds.{Round, no_telling, has_told, telling_at, asks_tops}
 use Rattle.far_model.specs.State.{State}

@@ -1,4 +1,4 @@
-use Rattle.far_model.specs.Past.{past_of}
+use Rattle.far_invariants.specs.Past.{past_of}
 use Rattle.far_model.specs.Runs.{run}
 use Rattle.far_model.specs.State.{opening}
 use Rattle.snapshot_laws.proofs.Meanings.{released_covered}

@@ -1,5 +1,5 @@
 use Rattle.std.proofs.Common.{refl}
-use Rattle.far_model.specs.Past.{new_starts, new_drawn, new_recoveries}
+use Rattle.far_invariants.specs.Past.{new_starts, new_drawn, new_recoveries}
 use Rattle.far_laws.proofs.Remembered.{remembered}
 use Rattle.far_laws.proofs.past.remembered_past.Goals as goal
 

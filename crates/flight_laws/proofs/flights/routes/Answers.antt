@@ -14,7 +14,7 @@ pub returns-clause-step : goal.returns-clause-step
 returns-clause-step c plan s e routed one able = (flight_step plan (keeping_of s e) s e (record { routed = routed; one = one }) (answers_in_kind s e) able).routed
 
 pub returns-clause-runs_with : goal.returns-clause-runs_with
-returns-clause-runs_with c plan events r = (flight_run_with plan (opening plan) events (flight_opens plan) r).routed
+returns-clause-runs_with c plan events r = (flight_run_with plan 0 (opening plan) events (flight_opens plan) r).routed
 
 pub returns-clause-runs : goal.returns-clause-runs
 returns-clause-runs c plan events r = (flight_run plan (opening plan) events (flight_opens plan) r).routed

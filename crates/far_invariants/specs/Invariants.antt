@@ -1,19 +1,19 @@
 -- What holds in every state of every run.
 use Rattle.far_base.specs.declared.record.Versioned.{Versioned}
-use Rattle.std.specs.Prelude.{◌≡◌, ◌≢◌, ℕ, ◌<◌, ◌≤◌, max, ◌⊎◌, Bool, true, false, ◌&&◌, nat_eq, if◌then◌else◌, List, [], ◌∷◌, length, Option, None, Some}
+use Rattle.std.specs.Prelude.{◌≡◌, ◌≢◌, ℕ, ◌<◌, ◌≤◌, max, ◌⊎◌, Bool, true, false, ◌&&◌, nat_eq, if◌then◌else◌, List, length, Option, None, Some}
 use Rattle.std.specs.List.{count_by}
 use Rattle.far_base.specs.PlanView.{PlanView}
 use Rattle.far_base.specs.declared.log.LogEntry.{LogEntry}
-use Rattle.far_base.specs.declared.log.LogEntry.TheVariants.{Sent, Numbered, Emitted, Answered, Admitted, Evicted, Kept, Snapped, SnapItem, Stopped, Recovered, RecItem}
+use Rattle.far_base.specs.declared.log.LogEntry.TheVariants.{Sent, Numbered, Emitted, Answered}
 use Rattle.far_base.specs.declared.log.LogLine.{LogLine}
 use Rattle.far_base.specs.declared.packet.Message.{Message}
 use Rattle.far_base.specs.declared.packet.Packet.{Packet}
-use Rattle.far_base.specs.declared.packet.Packet.TheVariants.{GetReq, WriteReq, GetFwd, WriteFwd, GetRep, WriteRep, GetAns, WriteAns, Hot, Admit, AdmitAck, Peek, PeekAns, Remove, RemoveAns, SnapStart, SnapBegun, SnapRead, SnapPart, Store, Stored, Release, Ask, Told, TopAsk, TopIs}
+use Rattle.far_base.specs.declared.packet.Packet.TheVariants.{GetFwd, WriteFwd, GetRep, WriteRep, Admit, AdmitAck}
 use Rattle.far_base.specs.declared.plan.OpLine.{OpLine}
 use Rattle.far_base.specs.declared.slot_state.SlotState.{SlotState}
 use Rattle.far_base.specs.declared.slot_state.SlotState.TheVariants.{Free, Admitting, Held as HeldSlot, Evicting}
 use Rattle.far_model.specs.Clients.{line_of}
-use Rattle.far_model.specs.Coherent.{HasOwnNumber, IsAnswering, IsCoherent, WasSent}
+use Rattle.far_model.specs.Coherent.{IsOwnNumber, ReachesOwnNumber, IsAnswering, IsCoherent, WasSent}
 use Rattle.far_model.specs.Evictions.{state_at}
 use Rattle.far_model.specs.KeyedRecords.{found}
 use Rattle.far_model.specs.Log.{exposed, is_read}
@@ -21,13 +21,13 @@ use Rattle.far_model.specs.Members.{Among, Pairs}
 use Rattle.far_model.specs.State.{State, client_at, records_at, line_at}
 use Rattle.far_model.specs.View.{SlotView, SwitchView, server_of, slot_at, entry_place}
 
--- each number of the key that an answer has shown up to the moment is at most n
-abbrev pub ShowsAtMostBy : PlanView → List LogLine → List ℕ → ℕ → ℕ → Type 0
-ShowsAtMostBy plan log key moment n = (at op num : ℕ) (body : Option (List ℕ)) (near : Bool) → Among (line_at at (Emitted op num body near)) log → (line_of plan.ops op).key ≡ key → at ≤ moment → num ≤ n
+-- each number of the key that was exposed up to the moment is at most n
+abbrev pub ExposedAtMostBy : PlanView → List LogLine → List ℕ → ℕ → ℕ → Type 0
+ExposedAtMostBy plan log key moment n = (at op num : ℕ) (body : Option (List ℕ)) (near : Bool) → Among (line_at at (Emitted op num body near)) log → (line_of plan.ops op).key ≡ key → at ≤ moment → num ≤ n
 
--- each number of the key that an answer has shown is at most n
-abbrev pub ShowsAtMost : PlanView → List LogLine → List ℕ → ℕ → Type 0
-ShowsAtMost plan log key n = (at op num : ℕ) (body : Option (List ℕ)) (near : Bool) → Among (line_at at (Emitted op num body near)) log → (line_of plan.ops op).key ≡ key → num ≤ n
+-- each number of the key that was exposed is at most n
+abbrev pub ExposedAtMost : PlanView → List LogLine → List ℕ → ℕ → Type 0
+ExposedAtMost plan log key n = (at op num : ℕ) (body : Option (List ℕ)) (near : Bool) → Among (line_at at (Emitted op num body near)) log → (line_of plan.ops op).key ≡ key → num ≤ n
 
 -- what the server of a key has for it
 abbrev pub look : PlanView → State → List ℕ → Versioned
@@ -48,12 +48,6 @@ reach_by stored (Some slot) = if slot.latest then slot.num else stored
 -- the number with which a read of the key would be answered: a latest slot's, and else the server's
 abbrev pub reach : PlanView → State → List ℕ → ℕ
 reach plan s key = reach_by (look plan s key).num (entry key s.switch)
-
--- the write's own number
-pub record IsOwnNumber (log : List LogLine) (moment op num : ℕ) : Type 0 where
-  pub numbered_at : ℕ
-  pub numbered : Among (line_at numbered_at (Numbered op num)) log
-  pub before : numbered_at ≤ moment
 
 -- the number is that of a write on the key with this body that was numbered by the moment
 pub record IsNumberOf (plan : PlanView) (log : List LogLine) (moment : ℕ) (key : List ℕ) (num : ℕ) (body : Option (List ℕ)) : Type 0 where
@@ -76,7 +70,7 @@ pub record NumbersDiffer (s : State) : Type 0 where
 -- what a server replied is at most what it has, and to a write at least the write's own number
 abbrev pub IsServed : PlanView → State → Packet → Type 0
 IsServed plan s (GetRep caller op key tag num body) = num ≤ (look plan s key).num
-IsServed plan s (WriteRep caller op key num body) = (num ≤ (look plan s key).num) × HasOwnNumber s.log s.steps op num
+IsServed plan s (WriteRep caller op key num body) = (num ≤ (look plan s key).num) × ReachesOwnNumber s.log s.steps op num
 IsServed plan s _ = Unit {0}
 
 abbrev pub RepliesAreServed : PlanView → State → Type 0
@@ -104,8 +98,8 @@ NumbersArrive plan s = (at op num : ℕ) → Among (line_at at (Numbered op num)
 
 -- a read that is at its server or comes from there will be answered with at least what was exposed when it was sent
 abbrev pub SeesFloor : PlanView → State → Packet → Type 0
-SeesFloor plan s (GetFwd caller op key tag) = (at : ℕ) → Among (line_at at (Sent op (line_of plan.ops op))) s.log → ShowsAtMostBy plan s.log key at (look plan s key).num
-SeesFloor plan s (GetRep caller op key tag num body) = (at : ℕ) → Among (line_at at (Sent op (line_of plan.ops op))) s.log → ShowsAtMostBy plan s.log key at num
+SeesFloor plan s (GetFwd caller op key tag) = (at : ℕ) → Among (line_at at (Sent op (line_of plan.ops op))) s.log → ExposedAtMostBy plan s.log key at (look plan s key).num
+SeesFloor plan s (GetRep caller op key tag num body) = (at : ℕ) → Among (line_at at (Sent op (line_of plan.ops op))) s.log → ExposedAtMostBy plan s.log key at num
 SeesFloor plan s _ = Unit {0}
 
 abbrev pub ReadsSeeTheirFloor : PlanView → State → Type 0
@@ -130,15 +124,15 @@ HasNoLatest (Some slot) = slot.latest ≡ false
 
 -- while the switch runs: where a key has no latest slot its server has at least what is exposed
 abbrev pub ServerIsCurrent : PlanView → State → Type 0
-ServerIsCurrent plan s = s.running ≡ true → (key : List ℕ) → HasNoLatest (entry key s.switch) → ShowsAtMost plan s.log key (look plan s key).num
+ServerIsCurrent plan s = s.running ≡ true → (key : List ℕ) → HasNoLatest (entry key s.switch) → ExposedAtMost plan s.log key (look plan s key).num
 
 -- while the switch runs: a latest slot has at least what is exposed
 abbrev pub LatestIsCurrent : PlanView → State → Type 0
-LatestIsCurrent plan s = s.running ≡ true → (key : List ℕ) (slot : SlotView) → entry key s.switch ≡ Some slot → slot.latest ≡ true → ShowsAtMost plan s.log key slot.num
+LatestIsCurrent plan s = s.running ≡ true → (key : List ℕ) (slot : SlotView) → entry key s.switch ≡ Some slot → slot.latest ≡ true → ExposedAtMost plan s.log key slot.num
 
 -- an outdated slot under this tag would be current with this number
 abbrev pub WouldBeCurrent : PlanView → State → List ℕ → ℕ → ℕ → Type 0
-WouldBeCurrent plan s key tag n = (slot : SlotView) → entry key s.switch ≡ Some slot → slot.latest ≡ false → slot.tag ≡ tag → ShowsAtMost plan s.log key (max n slot.num)
+WouldBeCurrent plan s key tag n = (slot : SlotView) → entry key s.switch ≡ Some slot → slot.latest ≡ false → slot.tag ≡ tag → ExposedAtMost plan s.log key (max n slot.num)
 
 abbrev pub IsTaggedCurrent : PlanView → State → Packet → Type 0
 IsTaggedCurrent plan s (GetRep caller op key tag num body) = WouldBeCurrent plan s key tag num

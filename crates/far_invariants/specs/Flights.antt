@@ -1,5 +1,5 @@
 -- Whose a packet is, between whom it goes, and that each open operation has exactly one packet on its way.
-use Rattle.std.specs.Prelude.{◌≡◌, ℕ, ◌<◌, Bool, true, false, nat_eq, if◌then◌else◌, List, length, is_some, Option, None, Some}
+use Rattle.std.specs.Prelude.{◌≡◌, ℕ, ◌<◌, Bool, true, false, nat_eq, if◌then◌else◌, List, length, is_some, Option, Some}
 use Rattle.std.specs.List.{count_by}
 use Rattle.far_base.specs.declared.packet.Message.{Message}
 use Rattle.far_base.specs.declared.packet.Packet.{Packet}
@@ -8,7 +8,6 @@ use Rattle.far_base.specs.PlanView.{PlanView}
 use Rattle.far_base.specs.declared.party.Party.{Party}
 use Rattle.far_base.specs.declared.party.Party.TheVariants.{Client, Switch, Server, Controller}
 use Rattle.far_base.specs.declared.plan.Config.{Config}
-use Rattle.far_base.specs.declared.record.Record.{Record}
 use Rattle.far_model.specs.Members.{Among}
 use Rattle.far_model.specs.State.{State, client_at}
 use Rattle.far_model.specs.View.{server_of}

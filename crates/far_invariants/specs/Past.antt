@@ -1,22 +1,22 @@
 -- What proofs remember of the past of a run. None of it is part of the state, and nothing that runs knows it.
-use Rattle.std.specs.Prelude.{◌≡◌, ℕ, Bool, true, false, nat_eq, ◌&&◌, if◌then◌else◌, List, [], ◌∷◌, ◌++◌, map, slice_get, Option, None, Some}
+use Rattle.std.specs.Prelude.{ℕ, nat_eq, if◌then◌else◌, List, [], ◌∷◌, ◌++◌, map, slice_get, Option, None, Some}
 use Rattle.far_base.specs.PlanView.{PlanView}
 use Rattle.far_base.specs.declared.event.Event.{Event}
-use Rattle.far_base.specs.declared.event.Event.TheVariants.{Send, Deliver, Tick, Recover, Restart, Order as OrderOf}
+use Rattle.far_base.specs.declared.event.Event.TheVariants.{Deliver, Tick, Recover}
 use Rattle.far_base.specs.declared.kept.KeptItem.{KeptItem}
 use Rattle.far_base.specs.declared.packet.Message.{Message}
 use Rattle.far_base.specs.declared.packet.Out.{Out}
 use Rattle.far_base.specs.declared.packet.Packet.{Packet}
-use Rattle.far_base.specs.declared.packet.Packet.TheVariants.{GetReq, WriteReq, GetFwd, WriteFwd, GetRep, WriteRep, GetAns, WriteAns, Hot, Admit, AdmitAck, Peek, PeekAns, Remove, RemoveAns, SnapStart, SnapBegun, SnapRead, SnapPart, Store, Stored, Release, Ask, Told, TopAsk, TopIs, SnapFrom}
+use Rattle.far_base.specs.declared.packet.Packet.TheVariants.{Admit, SnapStart, SnapFrom}
 use Rattle.far_base.specs.declared.party.Party.{Party}
-use Rattle.far_base.specs.declared.party.Party.TheVariants.{Client, Switch, Server, Controller}
+use Rattle.far_base.specs.declared.party.Party.TheVariants.{Switch}
 use Rattle.far_base.specs.declared.record.Record.{Record}
 use Rattle.far_model.specs.Controller.{ControllerState, tick}
 use Rattle.far_model.specs.Events.{happens}
 use Rattle.far_model.specs.Kept.{kept_records}
 use Rattle.far_model.specs.Parties.{Turn}
 use Rattle.far_model.specs.State.{State, opening}
-use Rattle.far_model.specs.View.{SlotView, SwitchView, held_record}
+use Rattle.far_model.specs.View.{SwitchView, held_record}
 
 -- what each slot held, and the counter, when the switch took the start of a snapshot
 pub record SnapshotStart : Type 0 where
