@@ -1,13 +1,14 @@
 -- The one spelling of each packet.
-use Rattle.std.specs.Prelude.{◌≡◌, ℕ, ◌^◌, ◌<◌, ◌≤◌, List, [], ◌∷◌, ◌++◌, length, drop, Bool, true, false, Option, Some, None, IsTrue, is_some}
+use Rattle.std.specs.Prelude.{◌≡◌, ℕ, ◌^◌, ◌<◌, ◌≤◌, List, [], ◌∷◌, ◌++◌, length, drop, Bool, true, false, Option}
+use Rattle.std.specs.Prelude.{Some, None, IsTrue, is_some}
 use Rattle.std.specs.Int.{w16, w32, w64, to_be_bytes}
 use Rattle.far_base.specs.Key.{is_key}
 use Rattle.far_base.specs.Padded.{is_there, length_of, text_of}
 use Rattle.far_base.specs.declared.body.TheConstants.{BODY_LIMIT}
 use Rattle.far_base.specs.declared.record.Record.{Record}
 use Rattle.far_base.specs.declared.packet.Packet.{Packet}
-use Rattle.far_base.specs.declared.packet.Packet.TheVariants.{GetReq, WriteReq, GetFwd, WriteFwd, GetRep, WriteRep, GetAns, WriteAns, Hot, Admit, AdmitAck, Peek, PeekAns, Remove, RemoveAns, SnapStart, SnapBegun, SnapRead, SnapPart, Store, Stored, Release, Ask, Told, TopAsk, TopIs, SnapSame, SnapFrom}
-use Rattle.packet_codec.specs.declared.kinds.TheConstants.{GET_REQ, WRITE_REQ, GET_FWD, WRITE_FWD, GET_REP, WRITE_REP, GET_ANS, WRITE_ANS, HOT, ADMIT, ADMIT_ACK, PEEK, PEEK_ANS, REMOVE, REMOVE_ANS, SNAP_START, SNAP_BEGUN, SNAP_READ, SNAP_PART, STORE, STORED, RELEASE, ASK, TOLD, TOP_ASK, TOP_IS, SNAP_SAME, SNAP_FROM}
+use Rattle.far_base.specs.declared.packet.Packet.TheVariants as packet
+use Rattle.packet_codec.specs.declared.kinds.TheConstants as kinds
 use Rattle.packet_codec.specs.declared.wire.TheConstants.{VERSION}
 
 -- what stands in a packet: its bytes, and that its value is within its range
@@ -84,38 +85,48 @@ numbered kind fields = record { kind = kind; fields = fields }
 
 -- the format, a row for each kind
 abbrev pub row : Packet → Row
-row (GetReq caller op key) = numbered GET_REQ (call_part caller op key)
-row (WriteReq caller op key body) = numbered WRITE_REQ (call_part caller op key and body_part body)
-row (GetFwd caller op key tag) = numbered GET_FWD (call_part caller op key and u64_part tag)
-row (WriteFwd caller op key num body) = numbered WRITE_FWD (call_part caller op key and u64_part num and body_part body)
-row (GetRep caller op key tag num body) = numbered GET_REP (call_part caller op key and u64_part tag and u64_part num and body_part body)
-row (WriteRep caller op key num body) = numbered WRITE_REP (call_part caller op key and u64_part num and body_part body)
-row (GetAns caller op key num body near) = numbered GET_ANS (call_part caller op key and u64_part num and body_part body and flag_part near)
-row (WriteAns caller op key num kept) = numbered WRITE_ANS (call_part caller op key and u64_part num and flag_part kept)
-row (Hot key) = numbered HOT (key_part key)
-row (Admit epoch slot key tag) = numbered ADMIT (u32_part epoch and u32_part slot and key_part key and u64_part tag)
-row (AdmitAck slot tag) = numbered ADMIT_ACK (u32_part slot and u64_part tag)
-row (Peek epoch slot tag) = numbered PEEK (u32_part epoch and u32_part slot and u64_part tag)
-row (PeekAns slot tag latest num body) = numbered PEEK_ANS (u32_part slot and u64_part tag and flag_part latest and u64_part num and body_part body)
-row (Remove epoch slot tag latest num) = numbered REMOVE (u32_part epoch and u32_part slot and u64_part tag and flag_part latest and u64_part num)
-row (RemoveAns slot tag done latest num body) = numbered REMOVE_ANS (u32_part slot and u64_part tag and flag_part done and flag_part latest and u64_part num and body_part body)
-row (SnapStart epoch id) = numbered SNAP_START (u32_part epoch and u32_part id)
-row (SnapBegun id point) = numbered SNAP_BEGUN (u32_part id and u64_part point)
-row (SnapRead epoch id slot) = numbered SNAP_READ (u32_part epoch and u32_part id and u32_part slot)
-row (SnapPart id slot view) = numbered SNAP_PART (u32_part id and u32_part slot and held_part view)
-row (Store job item) = numbered STORE (u64_part job and rec_part item)
-row (Stored job) = numbered STORED (u64_part job)
-row (Release point) = numbered RELEASE (u64_part point)
-row (Ask round) = numbered ASK (u32_part round)
-row (Told round caller total item) = numbered TOLD (u32_part round and u32_part caller and u32_part total and held_part item)
-row (TopAsk round) = numbered TOP_ASK (u32_part round)
-row (TopIs round server top) = numbered TOP_IS (u32_part round and u32_part server and u64_part top)
-row (SnapSame id slot) = numbered SNAP_SAME (u32_part id and u32_part slot)
-row (SnapFrom epoch id base) = numbered SNAP_FROM (u32_part epoch and u32_part id and u32_part base)
+row (packet.GetReq caller op key) = numbered kinds.GET_REQ (call_part caller op key)
+row (packet.WriteReq caller op key body) = numbered kinds.WRITE_REQ (call_part caller op key and body_part body)
+row (packet.GetFwd caller op key tag) = numbered kinds.GET_FWD (call_part caller op key and u64_part tag)
+row (packet.WriteFwd caller op key num body) = numbered kinds.WRITE_FWD
+    (call_part caller op key and u64_part num and body_part body)
+row (packet.GetRep caller op key tag num body) = numbered kinds.GET_REP
+    (call_part caller op key and u64_part tag and u64_part num and body_part body)
+row (packet.WriteRep caller op key num body) = numbered kinds.WRITE_REP
+    (call_part caller op key and u64_part num and body_part body)
+row (packet.GetAns caller op key num body near) = numbered kinds.GET_ANS
+    (call_part caller op key and u64_part num and body_part body and flag_part near)
+row (packet.WriteAns caller op key num kept) = numbered kinds.WRITE_ANS
+    (call_part caller op key and u64_part num and flag_part kept)
+row (packet.Hot key) = numbered kinds.HOT (key_part key)
+row (packet.Admit epoch slot key tag) = numbered kinds.ADMIT
+    (u32_part epoch and u32_part slot and key_part key and u64_part tag)
+row (packet.AdmitAck slot tag) = numbered kinds.ADMIT_ACK (u32_part slot and u64_part tag)
+row (packet.Peek epoch slot tag) = numbered kinds.PEEK (u32_part epoch and u32_part slot and u64_part tag)
+row (packet.PeekAns slot tag latest num body) = numbered kinds.PEEK_ANS
+    (u32_part slot and u64_part tag and flag_part latest and u64_part num and body_part body)
+row (packet.Remove epoch slot tag latest num) = numbered kinds.REMOVE
+    (u32_part epoch and u32_part slot and u64_part tag and flag_part latest and u64_part num)
+row (packet.RemoveAns slot tag done latest num body) = numbered kinds.REMOVE_ANS
+    (u32_part slot and u64_part tag and flag_part done and flag_part latest and u64_part num and body_part body)
+row (packet.SnapStart epoch id) = numbered kinds.SNAP_START (u32_part epoch and u32_part id)
+row (packet.SnapBegun id point) = numbered kinds.SNAP_BEGUN (u32_part id and u64_part point)
+row (packet.SnapRead epoch id slot) = numbered kinds.SNAP_READ (u32_part epoch and u32_part id and u32_part slot)
+row (packet.SnapPart id slot view) = numbered kinds.SNAP_PART (u32_part id and u32_part slot and held_part view)
+row (packet.Store job item) = numbered kinds.STORE (u64_part job and rec_part item)
+row (packet.Stored job) = numbered kinds.STORED (u64_part job)
+row (packet.Release point) = numbered kinds.RELEASE (u64_part point)
+row (packet.Ask round) = numbered kinds.ASK (u32_part round)
+row (packet.Told round caller total item) = numbered kinds.TOLD
+    (u32_part round and u32_part caller and u32_part total and held_part item)
+row (packet.TopAsk round) = numbered kinds.TOP_ASK (u32_part round)
+row (packet.TopIs round server top) = numbered kinds.TOP_IS (u32_part round and u32_part server and u64_part top)
+row (packet.SnapSame id slot) = numbered kinds.SNAP_SAME (u32_part id and u32_part slot)
+row (packet.SnapFrom epoch id base) = numbered kinds.SNAP_FROM (u32_part epoch and u32_part id and u32_part base)
 
 -- the version, the kind, the fields in their order and nothing else
 abbrev pub spelled : Packet → Part
-spelled packet = record { bytes = VERSION ∷ (row packet).kind ∷ (row packet).fields.bytes; in_range = (row packet).fields.in_range }
+spelled packet = let r = row packet in record { bytes = VERSION ∷ r.kind ∷ r.fields.bytes; in_range = r.fields.in_range }
 
 -- the bytes are the one spelling of the packet
 pub record Spells (bytes : List ℕ) (packet : Packet) : Type 0 where

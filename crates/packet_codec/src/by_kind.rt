@@ -1,5 +1,5 @@
 ghost use Rattle.packet_codec.specs.Reading.{Reads};
-ghost use Rattle.packet_codec.specs.Packets.{fields_at, get_req_at, write_req_at, get_fwd_at, write_fwd_at, get_rep_at, write_rep_at, get_ans_at, write_ans_at, hot_at, admit_at, admit_ack_at, peek_at, peek_ans_at, remove_at, remove_ans_at, snap_start_at, snap_begun_at, snap_read_at, snap_part_at, store_at, stored_at, release_at, ask_at, told_at, top_ask_at, top_is_at, snap_same_at, snap_from_at};
+ghost use Rattle.packet_codec.specs.Packets as packets;
 
 use crate::fault::BadPacket;
 use crate::kinds;
@@ -8,7 +8,7 @@ use far_base::Packet;
 
 #[tactic(auto, unfolding(crate::specs::Packets::get_req_at))]
 fn get_req(reader: &mut Reader) -> Result<Packet, BadPacket>
-    ensures { Reads result reader.new.rest.now (get_req_at reader.old.rest.now) }
+    ensures { Reads result reader.new.rest.now (packets.get_req_at reader.old.rest.now) }
 {
     let (caller, op, key) = reader.call()?;
     Ok(Packet::GetReq { caller, op, key })
@@ -16,7 +16,7 @@ fn get_req(reader: &mut Reader) -> Result<Packet, BadPacket>
 
 #[tactic(auto, unfolding(crate::specs::Packets::write_req_at))]
 fn write_req(reader: &mut Reader) -> Result<Packet, BadPacket>
-    ensures { Reads result reader.new.rest.now (write_req_at reader.old.rest.now) }
+    ensures { Reads result reader.new.rest.now (packets.write_req_at reader.old.rest.now) }
 {
     let (caller, op, key) = reader.call()?;
     Ok(Packet::WriteReq {
@@ -29,7 +29,7 @@ fn write_req(reader: &mut Reader) -> Result<Packet, BadPacket>
 
 #[tactic(auto, unfolding(crate::specs::Packets::get_fwd_at))]
 fn get_fwd(reader: &mut Reader) -> Result<Packet, BadPacket>
-    ensures { Reads result reader.new.rest.now (get_fwd_at reader.old.rest.now) }
+    ensures { Reads result reader.new.rest.now (packets.get_fwd_at reader.old.rest.now) }
 {
     let (caller, op, key) = reader.call()?;
     Ok(Packet::GetFwd {
@@ -42,7 +42,7 @@ fn get_fwd(reader: &mut Reader) -> Result<Packet, BadPacket>
 
 #[tactic(auto, unfolding(crate::specs::Packets::write_fwd_at))]
 fn write_fwd(reader: &mut Reader) -> Result<Packet, BadPacket>
-    ensures { Reads result reader.new.rest.now (write_fwd_at reader.old.rest.now) }
+    ensures { Reads result reader.new.rest.now (packets.write_fwd_at reader.old.rest.now) }
 {
     let (caller, op, key) = reader.call()?;
     Ok(Packet::WriteFwd {
@@ -56,7 +56,7 @@ fn write_fwd(reader: &mut Reader) -> Result<Packet, BadPacket>
 
 #[tactic(auto, unfolding(crate::specs::Packets::get_rep_at))]
 fn get_rep(reader: &mut Reader) -> Result<Packet, BadPacket>
-    ensures { Reads result reader.new.rest.now (get_rep_at reader.old.rest.now) }
+    ensures { Reads result reader.new.rest.now (packets.get_rep_at reader.old.rest.now) }
 {
     let (caller, op, key) = reader.call()?;
     Ok(Packet::GetRep {
@@ -71,7 +71,7 @@ fn get_rep(reader: &mut Reader) -> Result<Packet, BadPacket>
 
 #[tactic(auto, unfolding(crate::specs::Packets::write_rep_at))]
 fn write_rep(reader: &mut Reader) -> Result<Packet, BadPacket>
-    ensures { Reads result reader.new.rest.now (write_rep_at reader.old.rest.now) }
+    ensures { Reads result reader.new.rest.now (packets.write_rep_at reader.old.rest.now) }
 {
     let (caller, op, key) = reader.call()?;
     Ok(Packet::WriteRep {
@@ -85,7 +85,7 @@ fn write_rep(reader: &mut Reader) -> Result<Packet, BadPacket>
 
 #[tactic(auto, unfolding(crate::specs::Packets::get_ans_at))]
 fn get_ans(reader: &mut Reader) -> Result<Packet, BadPacket>
-    ensures { Reads result reader.new.rest.now (get_ans_at reader.old.rest.now) }
+    ensures { Reads result reader.new.rest.now (packets.get_ans_at reader.old.rest.now) }
 {
     let (caller, op, key) = reader.call()?;
     Ok(Packet::GetAns {
@@ -100,7 +100,7 @@ fn get_ans(reader: &mut Reader) -> Result<Packet, BadPacket>
 
 #[tactic(auto, unfolding(crate::specs::Packets::write_ans_at))]
 fn write_ans(reader: &mut Reader) -> Result<Packet, BadPacket>
-    ensures { Reads result reader.new.rest.now (write_ans_at reader.old.rest.now) }
+    ensures { Reads result reader.new.rest.now (packets.write_ans_at reader.old.rest.now) }
 {
     let (caller, op, key) = reader.call()?;
     Ok(Packet::WriteAns {
@@ -114,14 +114,14 @@ fn write_ans(reader: &mut Reader) -> Result<Packet, BadPacket>
 
 #[tactic(auto, unfolding(crate::specs::Packets::hot_at))]
 fn hot(reader: &mut Reader) -> Result<Packet, BadPacket>
-    ensures { Reads result reader.new.rest.now (hot_at reader.old.rest.now) }
+    ensures { Reads result reader.new.rest.now (packets.hot_at reader.old.rest.now) }
 {
     Ok(Packet::Hot { key: reader.key()? })
 }
 
 #[tactic(auto, unfolding(crate::specs::Packets::admit_at))]
 fn admit(reader: &mut Reader) -> Result<Packet, BadPacket>
-    ensures { Reads result reader.new.rest.now (admit_at reader.old.rest.now) }
+    ensures { Reads result reader.new.rest.now (packets.admit_at reader.old.rest.now) }
 {
     Ok(Packet::Admit {
         epoch: reader.u32()?,
@@ -133,7 +133,7 @@ fn admit(reader: &mut Reader) -> Result<Packet, BadPacket>
 
 #[tactic(auto, unfolding(crate::specs::Packets::admit_ack_at))]
 fn admit_ack(reader: &mut Reader) -> Result<Packet, BadPacket>
-    ensures { Reads result reader.new.rest.now (admit_ack_at reader.old.rest.now) }
+    ensures { Reads result reader.new.rest.now (packets.admit_ack_at reader.old.rest.now) }
 {
     Ok(Packet::AdmitAck {
         slot: reader.u32()?,
@@ -143,7 +143,7 @@ fn admit_ack(reader: &mut Reader) -> Result<Packet, BadPacket>
 
 #[tactic(auto, unfolding(crate::specs::Packets::peek_at))]
 fn peek(reader: &mut Reader) -> Result<Packet, BadPacket>
-    ensures { Reads result reader.new.rest.now (peek_at reader.old.rest.now) }
+    ensures { Reads result reader.new.rest.now (packets.peek_at reader.old.rest.now) }
 {
     Ok(Packet::Peek {
         epoch: reader.u32()?,
@@ -154,7 +154,7 @@ fn peek(reader: &mut Reader) -> Result<Packet, BadPacket>
 
 #[tactic(auto, unfolding(crate::specs::Packets::peek_ans_at))]
 fn peek_ans(reader: &mut Reader) -> Result<Packet, BadPacket>
-    ensures { Reads result reader.new.rest.now (peek_ans_at reader.old.rest.now) }
+    ensures { Reads result reader.new.rest.now (packets.peek_ans_at reader.old.rest.now) }
 {
     Ok(Packet::PeekAns {
         slot: reader.u32()?,
@@ -167,7 +167,7 @@ fn peek_ans(reader: &mut Reader) -> Result<Packet, BadPacket>
 
 #[tactic(auto, unfolding(crate::specs::Packets::remove_at))]
 fn remove(reader: &mut Reader) -> Result<Packet, BadPacket>
-    ensures { Reads result reader.new.rest.now (remove_at reader.old.rest.now) }
+    ensures { Reads result reader.new.rest.now (packets.remove_at reader.old.rest.now) }
 {
     Ok(Packet::Remove {
         epoch: reader.u32()?,
@@ -180,7 +180,7 @@ fn remove(reader: &mut Reader) -> Result<Packet, BadPacket>
 
 #[tactic(auto, unfolding(crate::specs::Packets::remove_ans_at))]
 fn remove_ans(reader: &mut Reader) -> Result<Packet, BadPacket>
-    ensures { Reads result reader.new.rest.now (remove_ans_at reader.old.rest.now) }
+    ensures { Reads result reader.new.rest.now (packets.remove_ans_at reader.old.rest.now) }
 {
     Ok(Packet::RemoveAns {
         slot: reader.u32()?,
@@ -194,7 +194,7 @@ fn remove_ans(reader: &mut Reader) -> Result<Packet, BadPacket>
 
 #[tactic(auto, unfolding(crate::specs::Packets::snap_start_at))]
 fn snap_start(reader: &mut Reader) -> Result<Packet, BadPacket>
-    ensures { Reads result reader.new.rest.now (snap_start_at reader.old.rest.now) }
+    ensures { Reads result reader.new.rest.now (packets.snap_start_at reader.old.rest.now) }
 {
     Ok(Packet::SnapStart {
         epoch: reader.u32()?,
@@ -204,7 +204,7 @@ fn snap_start(reader: &mut Reader) -> Result<Packet, BadPacket>
 
 #[tactic(auto, unfolding(crate::specs::Packets::snap_begun_at))]
 fn snap_begun(reader: &mut Reader) -> Result<Packet, BadPacket>
-    ensures { Reads result reader.new.rest.now (snap_begun_at reader.old.rest.now) }
+    ensures { Reads result reader.new.rest.now (packets.snap_begun_at reader.old.rest.now) }
 {
     Ok(Packet::SnapBegun {
         id: reader.u32()?,
@@ -214,7 +214,7 @@ fn snap_begun(reader: &mut Reader) -> Result<Packet, BadPacket>
 
 #[tactic(auto, unfolding(crate::specs::Packets::snap_read_at))]
 fn snap_read(reader: &mut Reader) -> Result<Packet, BadPacket>
-    ensures { Reads result reader.new.rest.now (snap_read_at reader.old.rest.now) }
+    ensures { Reads result reader.new.rest.now (packets.snap_read_at reader.old.rest.now) }
 {
     Ok(Packet::SnapRead {
         epoch: reader.u32()?,
@@ -225,7 +225,7 @@ fn snap_read(reader: &mut Reader) -> Result<Packet, BadPacket>
 
 #[tactic(auto, unfolding(crate::specs::Packets::snap_part_at))]
 fn snap_part(reader: &mut Reader) -> Result<Packet, BadPacket>
-    ensures { Reads result reader.new.rest.now (snap_part_at reader.old.rest.now) }
+    ensures { Reads result reader.new.rest.now (packets.snap_part_at reader.old.rest.now) }
 {
     Ok(Packet::SnapPart {
         id: reader.u32()?,
@@ -236,7 +236,7 @@ fn snap_part(reader: &mut Reader) -> Result<Packet, BadPacket>
 
 #[tactic(auto, unfolding(crate::specs::Packets::store_at))]
 fn store(reader: &mut Reader) -> Result<Packet, BadPacket>
-    ensures { Reads result reader.new.rest.now (store_at reader.old.rest.now) }
+    ensures { Reads result reader.new.rest.now (packets.store_at reader.old.rest.now) }
 {
     Ok(Packet::Store {
         job: reader.u64()?,
@@ -246,14 +246,14 @@ fn store(reader: &mut Reader) -> Result<Packet, BadPacket>
 
 #[tactic(auto, unfolding(crate::specs::Packets::stored_at))]
 fn stored(reader: &mut Reader) -> Result<Packet, BadPacket>
-    ensures { Reads result reader.new.rest.now (stored_at reader.old.rest.now) }
+    ensures { Reads result reader.new.rest.now (packets.stored_at reader.old.rest.now) }
 {
     Ok(Packet::Stored { job: reader.u64()? })
 }
 
 #[tactic(auto, unfolding(crate::specs::Packets::release_at))]
 fn release(reader: &mut Reader) -> Result<Packet, BadPacket>
-    ensures { Reads result reader.new.rest.now (release_at reader.old.rest.now) }
+    ensures { Reads result reader.new.rest.now (packets.release_at reader.old.rest.now) }
 {
     Ok(Packet::Release {
         point: reader.u64()?,
@@ -262,7 +262,7 @@ fn release(reader: &mut Reader) -> Result<Packet, BadPacket>
 
 #[tactic(auto, unfolding(crate::specs::Packets::ask_at))]
 fn ask(reader: &mut Reader) -> Result<Packet, BadPacket>
-    ensures { Reads result reader.new.rest.now (ask_at reader.old.rest.now) }
+    ensures { Reads result reader.new.rest.now (packets.ask_at reader.old.rest.now) }
 {
     Ok(Packet::Ask {
         round: reader.u32()?,
@@ -271,7 +271,7 @@ fn ask(reader: &mut Reader) -> Result<Packet, BadPacket>
 
 #[tactic(auto, unfolding(crate::specs::Packets::told_at))]
 fn told(reader: &mut Reader) -> Result<Packet, BadPacket>
-    ensures { Reads result reader.new.rest.now (told_at reader.old.rest.now) }
+    ensures { Reads result reader.new.rest.now (packets.told_at reader.old.rest.now) }
 {
     Ok(Packet::Told {
         round: reader.u32()?,
@@ -283,7 +283,7 @@ fn told(reader: &mut Reader) -> Result<Packet, BadPacket>
 
 #[tactic(auto, unfolding(crate::specs::Packets::top_ask_at))]
 fn top_ask(reader: &mut Reader) -> Result<Packet, BadPacket>
-    ensures { Reads result reader.new.rest.now (top_ask_at reader.old.rest.now) }
+    ensures { Reads result reader.new.rest.now (packets.top_ask_at reader.old.rest.now) }
 {
     Ok(Packet::TopAsk {
         round: reader.u32()?,
@@ -292,7 +292,7 @@ fn top_ask(reader: &mut Reader) -> Result<Packet, BadPacket>
 
 #[tactic(auto, unfolding(crate::specs::Packets::top_is_at))]
 fn top_is(reader: &mut Reader) -> Result<Packet, BadPacket>
-    ensures { Reads result reader.new.rest.now (top_is_at reader.old.rest.now) }
+    ensures { Reads result reader.new.rest.now (packets.top_is_at reader.old.rest.now) }
 {
     Ok(Packet::TopIs {
         round: reader.u32()?,
@@ -303,7 +303,7 @@ fn top_is(reader: &mut Reader) -> Result<Packet, BadPacket>
 
 #[tactic(auto, unfolding(crate::specs::Packets::snap_same_at))]
 fn snap_same(reader: &mut Reader) -> Result<Packet, BadPacket>
-    ensures { Reads result reader.new.rest.now (snap_same_at reader.old.rest.now) }
+    ensures { Reads result reader.new.rest.now (packets.snap_same_at reader.old.rest.now) }
 {
     Ok(Packet::SnapSame {
         id: reader.u32()?,
@@ -313,7 +313,7 @@ fn snap_same(reader: &mut Reader) -> Result<Packet, BadPacket>
 
 #[tactic(auto, unfolding(crate::specs::Packets::snap_from_at))]
 fn snap_from(reader: &mut Reader) -> Result<Packet, BadPacket>
-    ensures { Reads result reader.new.rest.now (snap_from_at reader.old.rest.now) }
+    ensures { Reads result reader.new.rest.now (packets.snap_from_at reader.old.rest.now) }
 {
     Ok(Packet::SnapFrom {
         epoch: reader.u32()?,
@@ -325,7 +325,7 @@ fn snap_from(reader: &mut Reader) -> Result<Packet, BadPacket>
 /// The fields of the kind of this number.
 #[tactic(auto, unfolding(crate::specs::Packets::fields_at))]
 pub fn fields(kind: u8, reader: &mut Reader) -> Result<Packet, BadPacket>
-    ensures { Reads result reader.new.rest.now (fields_at kind reader.old.rest.now) }
+    ensures { Reads result reader.new.rest.now (packets.fields_at kind reader.old.rest.now) }
 {
     match kind {
         kinds::GET_REQ => get_req(reader),

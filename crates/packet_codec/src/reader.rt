@@ -1,5 +1,6 @@
 ghost use Rattle.std.specs.Prelude.{◌≡◌, ◌<◌, ◌≤◌, length, take, drop, Some};
-ghost use Rattle.packet_codec.specs.Reading.{Reads, byte_at, taken_at, u16_at, u32_at, u64_at, flag_at, key_at, call_at, text_at, body_at, rec_at, held_at};
+ghost use Rattle.packet_codec.specs.Reading.{Reads, byte_at, taken_at, u16_at, u32_at, u64_at, flag_at, key_at};
+ghost use Rattle.packet_codec.specs.Reading.{call_at, text_at, body_at, rec_at, held_at};
 
 use crate::fault::BadPacket;
 use far_base::{BODY_LIMIT, Body, KEY_LENGTH, Key, Record};

@@ -1,7 +1,8 @@
 ghost use Rattle.std.specs.Prelude.{◌≡◌, ◌≤◌, ◌+◌, ◌++◌, [], ◌∷◌, length};
 ghost use Rattle.far_base.specs.declared.body.TheConstants.{BODY_LIMIT};
 ghost use Rattle.packet_codec.specs.declared.wire.TheConstants.{WIRE_SIZE};
-ghost use Rattle.packet_codec.specs.Spelling.{Adds, u16_part, u32_part, u64_part, flag_part, key_part, call_part, body_part, rec_part, held_part};
+ghost use Rattle.packet_codec.specs.Spelling.{Adds, u16_part, u32_part, u64_part, flag_part, key_part};
+ghost use Rattle.packet_codec.specs.Spelling.{call_part, body_part, rec_part, held_part};
 
 use crate::wire::{VERSION, Wire};
 use byteorder::{BigEndian, ByteOrder};

@@ -27,7 +27,8 @@ impl Model for Bag {
     ghost invariant = { λ b. b.count ≤ vec_len b.boxes };
 }
 
-ghost use Rattle.std.specs.Prelude.{◌≡◌, ◌+◌, ◌-◌, ◌^◌, ◌<◌, ◌≤◌, ◌++◌, [], ◌∷◌, length, remove, slice_get, Some, OnOk, OnErr, not};
+ghost use Rattle.std.specs.Prelude.{◌≡◌, ◌+◌, ◌-◌, ◌^◌, ◌<◌, ◌≤◌, ◌++◌, [], ◌∷◌, not};
+ghost use Rattle.std.specs.Prelude.{length, remove, slice_get, Some, OnOk, OnErr};
 ghost use Rattle.std.specs.List.{list_all};
 ghost use Rattle.wire_bag.specs.BagView.{are_from_others, is_same};
 
