@@ -1,6 +1,7 @@
 ghost use Rattle.std.specs.Prelude.{◌≡◌, ◌≤◌, ◌<◌, ◌++◌, ◌∷◌, [], IfOk, Some};
 ghost use Rattle.far_base.specs.declared.plan.TheConstants.{OP_LIMIT, STEP_LIMIT};
-ghost use Rattle.workload.specs.Draws.{after, op_by, key_number, lettered, key_by, body_by, choice_from, op_with, ops_from, seeded, orders_by, generated};
+ghost use Rattle.workload.specs.Draws.{after, op_by, key_number, lettered, key_by, body_by, choice_from, op_with};
+ghost use Rattle.workload.specs.Draws.{ops_from, seeded, orders_by, generated};
 ghost use Rattle.workload.specs.Plain.{IsPlain};
 
 use crate::load::Workload;
