@@ -1,5 +1,6 @@
 -- Numbers as words of a text.
-use Rattle.std.specs.Prelude.{ℕ, ◌+◌, ◌-◌, ◌*◌, ◌≤◌, Bool, false, ◌&&◌, ◌||◌, not, nat_le, nat_eq, List, [], ◌∷◌, length, Option, Some, None, if◌then◌else◌}
+use Rattle.std.specs.Prelude.{ℕ, ◌+◌, ◌-◌, ◌*◌, ◌≤◌, Bool, false, ◌&&◌, ◌||◌, not, nat_le, nat_eq, List, [], ◌∷◌}
+use Rattle.std.specs.Prelude.{length, Option, Some, None, if◌then◌else◌}
 use Rattle.std.specs.List.{list_all}
 use Rattle.far_text.specs.declared.words.TheConstants.{NUMBER_DIGITS, NUMBER_LIMIT}
 
@@ -18,7 +19,8 @@ starts_zero (c ∷ cs) = nat_eq c 48
 
 -- one to nineteen digits, with no zero in front of others
 abbrev pub is_number : List ℕ → Bool
-is_number word = ((nat_le 1 (length word) && nat_le (length word) NUMBER_DIGITS) && (nat_eq (length word) 1 || not (starts_zero word)))
+is_number word = ((nat_le 1 (length word) && nat_le (length word) NUMBER_DIGITS)
+    && (nat_eq (length word) 1 || not (starts_zero word)))
     && list_all is_digit word
 
 -- the number that the word spells

@@ -1,5 +1,6 @@
 -- Keys and bodies as words of a text.
-use Rattle.std.specs.Prelude.{ℕ, ◌≤◌, ◌&&◌, List, [], ◌∷◌, length, Option, Some, None, nat_eq, nat_le, if◌then◌else◌, codes, bytes_eq, IsTrue}
+use Rattle.std.specs.Prelude.{ℕ, ◌≤◌, ◌&&◌, List, [], ◌∷◌, length, Option, Some, None, nat_eq, nat_le, if◌then◌else◌}
+use Rattle.std.specs.Prelude.{codes, bytes_eq, IsTrue}
 use Rattle.std.specs.List.{list_all}
 use Rattle.far_base.specs.Key.{is_visible, is_key_text, is_key}
 use Rattle.far_base.specs.Padded.{padded}

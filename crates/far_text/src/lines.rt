@@ -7,7 +7,9 @@ use crate::words::cut;
 /// What is left of a text that is read line by line, and how many lines were read.
 #[derive(Drop)]
 pub struct Lines<'a> {
+    /// The text behind the lines that were read.
     pub rest: &'a [u8],
+    /// The number of lines that were read, which is that of the line that `next_line` answered last.
     pub read: u32,
 }
 

@@ -83,3 +83,5 @@ pub text_over : (n : ℕ) (w : WorkView) (bytes : List ℕ) → length bytes ≡
 unfolding body_from
 text_over n w [] e = refl
 text_over n w (b ∷ bs) e = absurd cc
+
+pub ruleset line_by_line = (line_read, line_fails, line_missing, text_over)

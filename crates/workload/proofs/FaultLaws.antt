@@ -132,7 +132,7 @@ by_head text fault (Ok head) h e =
       at = b.at;
     })
 
-fault_takes : (text : List ℕ) (fault : WorkFault) → reading text ≡ Err fault → HasFault text fault
+pub fault_takes : (text : List ℕ) (fault : WorkFault) → reading text ≡ Err fault → HasFault text fault
 unfolding reading
 fault_takes text fault e = by_head text fault (head_of (pieces 10 text)) refl e
 
@@ -165,7 +165,7 @@ at_again n number v rest fault k (inr h) =
     let failed : line_step (n + 1) v h.line ≡ Err fault = ap (λ (m : ℕ). line_step m v h.line) (sym k) ∙ h.fails in
     ap (λ (l : Pieces). body_from n v l) pieces_are ∙ body_step n v h.line h.others ∙ ap (λ (r : Result WorkView WorkFault). r andthen λ read. body_from (n + 1) read (pieces 10 h.others)) failed
 
-fault_again : (text : List ℕ) (fault : WorkFault) → HasFault text fault → reading text ≡ Err fault
+pub fault_again : (text : List ℕ) (fault : WorkFault) → HasFault text fault → reading text ≡ Err fault
 unfolding reading
 fault_again text fault (inl h) = ap (λ (r : Result (Config × Pieces) WorkFault). r andthen λ head. body_from 5 (empty_work head.0) head.1) h
 fault_again text fault (inr h) =

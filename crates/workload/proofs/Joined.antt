@@ -132,3 +132,5 @@ cut_fails line picks bytes word behind fault e f = rw (pieces_cut 32 bytes, e) (
 
 pub last_word : (line : ℕ) (picks bytes : List ℕ) → cut_at 32 bytes ≡ None → joined_from line true picks (pieces 32 bytes) ≡ (pushed line picks bytes andthen λ p. whole line p.0 p.1)
 last_word line picks bytes e = rw (pieces_cut 32 bytes, e) refl
+
+pub ruleset word_by_word = (one_cut, cut_fails, last_word)

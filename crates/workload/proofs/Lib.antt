@@ -14,3 +14,4 @@ pub mod StepLaws
 pub mod ReadingLaws
 pub mod PrintedLaws
 pub mod FaultLaws
+pub mod TextLaws

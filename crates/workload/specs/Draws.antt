@@ -1,5 +1,6 @@
 -- Draws of the generator, and the workload that they make.
-use Rattle.std.specs.Prelude.{ℕ, zero, suc, ◌+◌, ◌*◌, ◌%◌, List, [], ◌∷◌, Option, Some, None, nat_lt, if◌then◌else◌, decimal}
+use Rattle.std.specs.Prelude.{ℕ, zero, suc, ◌+◌, ◌*◌, ◌%◌, List, [], ◌∷◌, Option, Some, None, nat_lt, if◌then◌else◌}
+use Rattle.std.specs.Prelude.{decimal}
 use Rattle.rand_core.specs.Pcg32Seed.{pcg32_seed}
 use Rattle.rand_pcg.specs.Lcg.{Lcg}
 use Rattle.rand_pcg.specs.Pcg.{pcg32, pcg32_of_seed}
@@ -43,7 +44,11 @@ body_by Del i = None
 
 -- what the next four draws choose
 unfoldable pub choice_from : Lcg → Choice
-choice_from g = record { client = (pcg32 g).0 % 16; op = op_by (pcg32 (after 1 g)).0; key = key_number (pcg32 (after 2 g)).0 (pcg32 (after 3 g)).0 }
+choice_from g = record {
+  client = (pcg32 g).0 % 16;
+  op = op_by (pcg32 (after 1 g)).0;
+  key = key_number (pcg32 (after 2 g)).0 (pcg32 (after 3 g)).0;
+}
 
 -- operation i
 abbrev pub op_with : ℕ → Choice → OpLine
@@ -59,7 +64,11 @@ orders_by ops = Snap ops ∷ Stop (2 * ops) ∷ Snap (3 * ops) ∷ Stop (4 * ops
 
 abbrev pub generated : ℕ → ℕ → WorkView
 generated start ops = record {
-  plan = record { config = record { clients = 16; servers = 4; slots = 256; hot = 4 }; ops = ops_from 1 ops (seeded start); orders = orders_by ops };
+  plan = record {
+    config = record { clients = 16; servers = 4; slots = 256; hot = 4 };
+    ops = ops_from 1 ops (seeded start);
+    orders = orders_by ops;
+  };
   picks = [];
   random = Some start;
 }

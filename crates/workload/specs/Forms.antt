@@ -1,5 +1,6 @@
 -- The forms of the lines after the head, and what each adds to a workload.
-use Rattle.std.specs.Prelude.{ℕ, ◌+◌, List, [], ◌∷◌, ◌++◌, length, Option, Some, None, Result, Ok, Err, nat_le, nat_lt, if◌then◌else◌}
+use Rattle.std.specs.Prelude.{ℕ, ◌+◌, List, [], ◌∷◌, ◌++◌, length, Option, Some, None, Result, Ok, Err, nat_le, nat_lt}
+use Rattle.std.specs.Prelude.{if◌then◌else◌}
 use Rattle.std.specs.List.{count_by}
 use Rattle.far_base.specs.Padded.{length_of}
 use Rattle.far_base.specs.Limits.{is_slot_order, is_snap, is_stop}
@@ -8,7 +9,8 @@ use Rattle.far_base.specs.declared.plan.Op.{Op}
 use Rattle.far_base.specs.declared.plan.Op.TheVariants.{Get as GetOp, Put as PutOp, Del as DelOp}
 use Rattle.far_base.specs.declared.plan.OpLine.{OpLine}
 use Rattle.far_base.specs.declared.plan.Order.{Order}
-use Rattle.far_base.specs.declared.plan.Order.TheVariants.{Admit as AdmitOrder, Evict as EvictOrder, Snap as SnapOrder, Stop as StopOrder, StopAt as StopAtOrder}
+use Rattle.far_base.specs.declared.plan.Order.TheVariants.{Admit as AdmitOrder, Evict as EvictOrder, Snap as SnapOrder}
+use Rattle.far_base.specs.declared.plan.Order.TheVariants.{Stop as StopOrder, StopAt as StopAtOrder}
 use Rattle.far_base.specs.declared.plan.TheConstants.{OP_LIMIT, ORDER_LIMIT, SNAP_LIMIT, STOP_LIMIT}
 use Rattle.workload.specs.Kinds.{kind_of}
 use Rattle.far_text.specs.Options.{◌>>=◌}
@@ -97,7 +99,9 @@ abbrev pub order_step : ℕ → WorkView → Order → Result WorkView WorkFault
 order_step n w order = unless n (passed w.plan.orders order) (with_order w order)
 
 abbrev pub picks_step : ℕ → WorkView → List ℕ → Result WorkView WorkFault
-picks_step n w ns = if nat_le (length w.picks + length ns) PICK_LIMIT then Ok (with_picks w ns) else Err (TooLarge PickCount n)
+picks_step n w ns = if nat_le (length w.picks + length ns) PICK_LIMIT
+    then Ok (with_picks w ns)
+    else Err (TooLarge PickCount n)
 
 abbrev pub random_by : ℕ → WorkView → ℕ → Option ℕ → Result WorkView WorkFault
 random_by n w start None = Ok (with_random w start)

@@ -1,5 +1,6 @@
 -- Parts of a step as the parser takes them.
-use Rattle.std.specs.Prelude.{ℕ, Bool, true, false, List, [], ◌∷◌, ◌++◌, length, Option, Some, None, Result, Ok, Err, nat_lt, if◌then◌else◌}
+use Rattle.std.specs.Prelude.{ℕ, Bool, true, false, List, [], ◌∷◌, ◌++◌, length, Option, Some, None, Result, Ok, Err}
+use Rattle.std.specs.Prelude.{nat_lt, if◌then◌else◌}
 use Rattle.far_text.specs.Numbers.{number_of}
 use Rattle.workload.specs.Outcome.{◌andthen◌}
 use Rattle.workload.specs.declared.fault.Limit.TheVariants.{Picks}
@@ -14,7 +15,9 @@ client_in clients n = if nat_lt n clients then Some n else None
 -- whether there was room for the pick, and the picks
 abbrev pub pushed_by : ℕ → List ℕ → Option ℕ → Result (Bool × List ℕ) WorkFault
 pushed_by line picks None = Err (BadLine line)
-pushed_by line picks (Some n) = if nat_lt (length picks) PICK_LIMIT then Ok (true, picks ++ n ∷ []) else Ok (false, picks)
+pushed_by line picks (Some n) = if nat_lt (length picks) PICK_LIMIT
+    then Ok (true, picks ++ n ∷ [])
+    else Ok (false, picks)
 
 abbrev pub pushed : ℕ → List ℕ → List ℕ → Result (Bool × List ℕ) WorkFault
 pushed line picks word = pushed_by line picks (number_of word)

@@ -1,7 +1,8 @@
 -- The words for the kinds of packets at which the switch may stop.
 use Rattle.std.specs.Prelude.{ℕ, List, Option, Some, None, bytes_eq, if◌then◌else◌, codes}
 use Rattle.far_base.specs.declared.plan.PassKind.{PassKind}
-use Rattle.far_base.specs.declared.plan.PassKind.TheVariants.{GetReq, WriteReq, GetRep, WriteRep, Admit, Peek, Remove, SnapStart, SnapRead}
+use Rattle.far_base.specs.declared.plan.PassKind.TheVariants.{GetReq, WriteReq, GetRep, WriteRep, Admit, Peek, Remove}
+use Rattle.far_base.specs.declared.plan.PassKind.TheVariants.{SnapStart, SnapRead}
 
 abbrev pub kind_name : PassKind → List ℕ
 kind_name GetReq = codes "getreq"

@@ -1,5 +1,6 @@
 -- Reading a text line by line: the workload, or the first fault and its line.
-use Rattle.std.specs.Prelude.{ℕ, ◌+◌, List, [], ◌∷◌, Option, Some, None, Result, Ok, Err, nat_lt, bytes_eq, if◌then◌else◌, codes}
+use Rattle.std.specs.Prelude.{ℕ, ◌+◌, List, [], ◌∷◌, Option, Some, None, Result, Ok, Err, nat_lt, bytes_eq}
+use Rattle.std.specs.Prelude.{if◌then◌else◌, codes}
 use Rattle.far_base.specs.declared.plan.Config.{Config}
 use Rattle.far_base.specs.declared.plan.TheConstants.{CLIENT_LIMIT, SERVER_LIMIT, SLOT_LIMIT, HOT_LIMIT}
 use Rattle.far_text.specs.Pieces.{Pieces, pieces}
@@ -28,14 +29,18 @@ title_of lines = next_line 0 lines andthen titled
 
 abbrev pub sized_by : ℕ → ℕ → ℕ → Limit → Option ℕ → Result ℕ WorkFault
 sized_by n least most which None = Err (BadLine n)
-sized_by n least most which (Some k) = if nat_lt k least then Err (BadLine n) else (if nat_lt most k then Err (TooLarge which n) else Ok k)
+sized_by n least most which (Some k) = if nat_lt k least
+    then Err (BadLine n)
+    else (if nat_lt most k then Err (TooLarge which n) else Ok k)
 
 -- line n: a name and a number within these bounds
 abbrev pub sized : ℕ → List ℕ → ℕ → ℕ → Limit → List ℕ → Result ℕ WorkFault
 sized n name least most which line = sized_by n least most which (named name line)
 
 abbrev pub size_of : ℕ → List ℕ → ℕ → ℕ → Limit → Pieces → Result (ℕ × Pieces) WorkFault
-size_of n name least most which lines = next_line n lines andthen λ l. sized (n + 1) name least most which l.0 andthen λ k. Ok (k, l.1)
+size_of n name least most which lines = next_line n lines andthen λ l.
+    sized (n + 1) name least most which l.0 andthen λ k.
+    Ok (k, l.1)
 
 unfoldable pub head_of : Pieces → Result (Config × Pieces) WorkFault
 head_of lines = title_of lines andthen λ rest.
@@ -59,7 +64,8 @@ at_end n w (b ∷ bs) = Err (BadLine (n + 1))
 unfoldable pub body_from : ℕ → WorkView → Pieces → Result WorkView WorkFault
 body_from n w [] = Ok w
 body_from n w (line ∷ []) = at_end n w line
-body_from n w (line ∷ next ∷ more) = line_step (n + 1) w line andthen λ read. body_from (n + 1) read (next ∷ more)
+body_from n w (line ∷ next ∷ more) = line_step (n + 1) w line andthen λ read.
+    body_from (n + 1) read (next ∷ more)
 
 abbrev pub empty_work : Config → WorkView
 empty_work config = record { plan = record { config = config; ops = []; orders = [] }; picks = []; random = None }

@@ -28,7 +28,11 @@ abbrev pub number_key_text : List ℕ → ℕ → List ℕ → List ℕ
 number_key_text text n key = number_text text n ++ 32 ∷ key_text key
 
 abbrev pub head_text : Config → List ℕ
-head_text c = codes "far 1\n" ++ number_line (codes "clients ") c.clients ++ number_line (codes "servers ") c.servers ++ number_line (codes "slots ") c.slots ++ number_line (codes "hot ") c.hot
+head_text c = codes "far 1\n"
+    ++ number_line (codes "clients ") c.clients
+    ++ number_line (codes "servers ") c.servers
+    ++ number_line (codes "slots ") c.slots
+    ++ number_line (codes "hot ") c.hot
 
 abbrev pub verb_text : Op → List ℕ
 verb_text Get = codes "get "

@@ -40,4 +40,9 @@ number_and_key words = cut_at 32 words >>= λ c. number_of c.0 >>= λ n. key_of 
 
 -- a number, a key and a body
 abbrev pub put_words : List ℕ → Option (ℕ × List ℕ × List ℕ)
-put_words words = cut_at 32 words >>= λ c. number_of c.0 >>= λ n. cut_at 32 c.1 >>= λ d. key_of d.0 >>= λ k. body_bytes_of d.1 >>= λ text. Some (n, k, text)
+put_words words = cut_at 32 words >>= λ c.
+    number_of c.0 >>= λ n.
+    cut_at 32 c.1 >>= λ d.
+    key_of d.0 >>= λ k.
+    body_bytes_of d.1 >>= λ text.
+    Some (n, k, text)

@@ -3,16 +3,27 @@ use std::alloc::AllocFailed;
 /// A limit that a workload, or its text, may pass.
 #[derive(Clone, Copy, Debug, PartialEq, Eq)]
 pub enum Limit {
+    /// the bytes of the input; a reader of the input names it, `parse` never does
     Input,
+    /// the number of clients
     Clients,
+    /// the number of servers
     Servers,
+    /// the number of slots
     Slots,
+    /// the count at which a key grows hot
     Hot,
+    /// the bytes of a body
     Body,
+    /// the number of operations
     Ops,
+    /// the number of orders to admit and to evict, together
     Orders,
+    /// the number of orders to take a snapshot
     Snaps,
+    /// the number of orders to stop the switch, of both forms together
     Stops,
+    /// the number of listed picks
     Picks,
 }
 

@@ -1,11 +1,12 @@
 ghost use Rattle.std.specs.Prelude.{◌≡◌, ◌≤◌, ◌<◌, ◌++◌, ◌∷◌, [], IfOk, Some};
 ghost use Rattle.far_base.specs.declared.plan.TheConstants.{OP_LIMIT, STEP_LIMIT};
-ghost use Rattle.workload.specs.Draws.{after, op_by, key_number, lettered, key_by, body_by, choice_from, op_with, ops_from, seeded, orders_by, generated};
+ghost use Rattle.workload.specs.Draws.{after, op_by, key_number, lettered, key_by, body_by, choice_from, op_with};
+ghost use Rattle.workload.specs.Draws.{ops_from, seeded, orders_by, generated};
 ghost use Rattle.workload.specs.Plain.{IsPlain};
 
 use crate::load::Workload;
 use far_base::{Body, Config, Key, Memory, Op, OpLine, Order, Plan};
-use itoa::Buffer;
+use far_text::{put_number, put_text};
 use rand_core::SeedableRng;
 use rand_core::utils::NextWord;
 use rand_pcg::Lcg64Xsh32;
@@ -35,10 +36,9 @@ fn key_number(choice: u32, draw: u32) -> u32
 fn lettered(alloc: Global, letter: u8, number: u32) -> Result<Vec<u8>, Memory>
     ensures { IfOk result (λ text. text.items ≡ lettered letter number) }
 {
-    let mut buffer = Buffer::new();
     let mut text = Vec::new(alloc);
-    text.push(letter).map_err(|_| Memory)?;
-    text.extend_from_slice(buffer.format(number).as_bytes())?;
+    put_text(&mut text, &[letter])?;
+    put_number(&mut text, u64::from(number))?;
     Ok(text)
 }
 

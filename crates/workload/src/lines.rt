@@ -19,7 +19,8 @@ fn named_number(line: &[u8], name: &[u8]) -> Option<u64>
 #[tactic(auto, using(crate::proofs::NextLine::line_next, crate::proofs::NextLine::line_missing))]
 pub(crate) fn next_line<'a>(lines: &mut Lines<'a>) -> Result<&'a [u8], WorkFault>
     requires { lines.old.read + 1 < 2 ^ 32 }
-    ensures line { Gives (λ line. (line.now, pieces 10 lines.new.rest.now)) result (next_line lines.old.read (pieces 10 lines.old.rest.now)) }
+    ensures line { Gives (λ line. (line.now, pieces 10 lines.new.rest.now)) result
+        (next_line lines.old.read (pieces 10 lines.old.rest.now)) }
     ensures shorter { IfOk result (λ _. length lines.new.rest.now < length lines.old.rest.now) }
     ensures count { IfOk result (λ _. lines.new.read ≡ lines.old.read + 1) }
 {
@@ -50,7 +51,8 @@ fn size(
     which: Limit,
 ) -> Result<u32, WorkFault>
     requires { lines.old.read + 1 < 2 ^ 32 }
-    ensures line { Gives (λ k. (k, pieces 10 lines.new.rest.now)) result (size_of lines.old.read name.now least most which (pieces 10 lines.old.rest.now)) }
+    ensures line { Gives (λ k. (k, pieces 10 lines.new.rest.now)) result
+        (size_of lines.old.read name.now least most which (pieces 10 lines.old.rest.now)) }
     ensures shorter { IfOk result (λ _. length lines.new.rest.now < length lines.old.rest.now) }
     ensures count { IfOk result (λ _. lines.new.read ≡ lines.old.read + 1) }
 {
@@ -71,7 +73,8 @@ fn size(
 #[tactic(auto, unfolding(crate::specs::Reading::head_of))]
 pub(crate) fn head(lines: &mut Lines) -> Result<Config, WorkFault>
     requires { lines.old.read ≡ 0 }
-    ensures head { Gives (λ config. (config, pieces 10 lines.new.rest.now)) result (head_of (pieces 10 lines.old.rest.now)) }
+    ensures head { Gives (λ config. (config, pieces 10 lines.new.rest.now)) result
+        (head_of (pieces 10 lines.old.rest.now)) }
     ensures shorter { IfOk result (λ _. length lines.new.rest.now + 5 ≤ length lines.old.rest.now) }
     ensures count { IfOk result (λ _. lines.new.read ≡ 5) }
 {

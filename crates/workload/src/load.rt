@@ -10,8 +10,11 @@ pub const PICK_LIMIT: u32 = 1_000_000;
 /// list of picks and the start number.
 #[derive(Drop)]
 pub struct Workload {
+    /// The sizes, the operations and the orders.
     pub plan: Plan,
+    /// The listed picks, at most `PICK_LIMIT` of them in a workload that was read.
     pub picks: Vec<u64>,
+    /// The start number of the generator of the picks behind the listed ones.
     pub random: Option<u64>,
 }
 

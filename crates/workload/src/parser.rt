@@ -11,7 +11,8 @@ ghost use Rattle.workload.specs.Faults.{HasFault, Blames, IsFoundAs};
 ghost use Rattle.workload.specs.declared.fault.WorkFault.{WorkFault};
 ghost use Rattle.workload.specs.WorkView.{WorkView};
 ghost use Rattle.workload.specs.Joining.{client_in, pushed, joined_from};
-ghost use Rattle.workload.specs.declared.words.Verb.TheVariants.{Get, Put, Del, Admit, Evict, Snap, Stop, Picks, Random};
+ghost use Rattle.workload.specs.declared.words.Verb.TheVariants.{Get, Put, Del, Admit, Evict, Snap, Stop, Picks};
+ghost use Rattle.workload.specs.declared.words.Verb.TheVariants.{Random};
 
 use crate::fault::{Limit, WorkFault};
 use crate::lines::{head, next_line};
@@ -95,7 +96,7 @@ fn push_pick(picks: &mut Vec<u64>, number: u32, word: &[u8]) -> Result<bool, Wor
     Ok(true)
 }
 
-#[tactic(auto, using(crate::proofs::Joined::one_cut, crate::proofs::Joined::cut_fails, crate::proofs::Joined::last_word))]
+#[tactic(auto, using(crate::proofs::Joined::word_by_word))]
 fn join_picks(picks: &mut Vec<u64>, number: u32, words: &[u8]) -> Result<(), WorkFault>
     ensures { Gives (λ _. picks.new.items) result (joined_from number true picks.old.items (pieces 32 words.now)) }
 {
@@ -254,7 +255,7 @@ impl Workload {
     }
 }
 
-#[tactic(auto, unfolding(crate::specs::Reading::reading), using(crate::proofs::ByLine::line_read, crate::proofs::ByLine::line_fails, crate::proofs::ByLine::line_missing, crate::proofs::ByLine::text_over))]
+#[tactic(auto, unfolding(crate::specs::Reading::reading), using(crate::proofs::ByLine::line_by_line))]
 fn read_text(alloc: Global, text: &[u8]) -> Result<Workload, WorkFault>
     requires { length text.now < 2 ^ 32 }
     ensures { Gives (λ w. w) result (reading text.now) }

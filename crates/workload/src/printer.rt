@@ -9,7 +9,8 @@ ghost use Rattle.far_base.specs.declared.plan.Order.TheVariants.{StopAt};
 ghost use Rattle.workload.specs.Kinds.{kind_name};
 ghost use Rattle.workload.specs.Forms.{OfOp, OfOrder, OfPicks};
 ghost use Rattle.workload.specs.Plain.{IsPlain};
-ghost use Rattle.workload.specs.Spelling.{number_text, number_line, number_key_text, head_text, verb_text, body_text, order_text, line_text, lines_text, rows, random_forms, spelling};
+ghost use Rattle.workload.specs.Spelling.{number_text, number_line, number_key_text, head_text, verb_text, body_text};
+ghost use Rattle.workload.specs.Spelling.{order_text, line_text, lines_text, rows, random_forms, spelling};
 ghost use Rattle.workload.specs.Rows.{pick_text, next_place};
 ghost use Rattle.workload.specs.declared.printer.TheConstants.{PICKS_PER_LINE};
 

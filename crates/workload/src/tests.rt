@@ -5,7 +5,10 @@ use std::test::Fail;
 fn what_was_read_prints_as_it_was(rt: HostRuntime) -> Result<(), Fail> {
     for text in [
         b"far 1\nclients 1\nservers 1\nslots 1\nhot 0\nput 0 a =x\nget 0 a\n".as_slice(),
-        b"far 1\nclients 2\nservers 16\nslots 1024\nhot 65535\nget 1 a\nput 0 b =\ndel 1 0123456789abcdef\nadmit 0 a\nevict 3 b\nsnap 9999999999999999999\nstop 12\nstop writereq 1\nstop admit 0\npicks 0 7 9999999999999999999\nrandom 5\n".as_slice(),
+        b"far 1\nclients 2\nservers 16\nslots 1024\nhot 65535\nget 1 a\nput 0 b =\n\
+          del 1 0123456789abcdef\nadmit 0 a\nevict 3 b\nsnap 9999999999999999999\nstop 12\n\
+          stop writereq 1\nstop admit 0\npicks 0 7 9999999999999999999\nrandom 5\n"
+            .as_slice(),
     ] {
         let load = parse(rt.alloc(), text).ok().ok_or("not read")?;
         let printed = print(rt.alloc(), &load).ok().ok_or("not printed")?;
@@ -28,7 +31,11 @@ fn the_first_fault_decides(rt: HostRuntime) {
             WorkFault::BadLine(6),
         ),
         (
-            b"far 1\nclients 1\nservers 1\nslots 1\nhot 0\nput 0 a =xxxxxxxxxxxxxxxxxxxxxxxxxxxxxxxxxxxxxxxxxxxxxxxxxxxxxxxxxxxxxxxxxxxxxxxxxxxxxxxxxxxxxxxxxxxxxxxxxxxxxxxxxxxxxxxxxxxxxxxxxxxxxxxxxxxxxxxxxxxxxxxxxxxxxxxxxxxxxxxxxxxxxxxxxxxxxxxxxxxxxxxxxxxxxxxxxxxxxxxxxxxxxxxxxxxxxxxxxxxxxxxxxxxxxxxxxxxxxxxxxxxxxxxxxxxxxxxxx\n".as_slice(),
+            b"far 1\nclients 1\nservers 1\nslots 1\nhot 0\n\
+              put 0 a =xxxxxxxxxxxxxxxxxxxxxxxxxxxxxxxxxxxxxxxxxxxxxxxxxxxxxxxxxxxxxxxxxxxxxxxxxxxxxxxxx\
+              xxxxxxxxxxxxxxxxxxxxxxxxxxxxxxxxxxxxxxxxxxxxxxxxxxxxxxxxxxxxxxxxxxxxxxxxxxxxxxxxxxxxxxxxxx\
+              xxxxxxxxxxxxxxxxxxxxxxxxxxxxxxxxxxxxxxxxxxxxxxxxxxxxxxxxxxxxxxxxxxxxxxxxxxxxxxxxxxxxxx\n"
+                .as_slice(),
             WorkFault::TooLarge(Limit::Body, 6),
         ),
         (
@@ -58,7 +65,9 @@ fn generated_work_and_its_picks(rt: HostRuntime) -> Result<(), Fail> {
     let printed = print(rt.alloc(), &load).ok().ok_or("not printed")?;
     assert!(rt;
         printed.as_slice()
-            == b"far 1\nclients 16\nservers 4\nslots 256\nhot 4\nget 9 k1220\nput 12 k32 =v2\nput 3 k18 =v3\nget 0 k53\nget 10 k22\nget 8 k6\nsnap 6\nstop 12\nsnap 18\nstop 24\nrandom 7\n".as_slice()
+            == b"far 1\nclients 16\nservers 4\nslots 256\nhot 4\nget 9 k1220\nput 12 k32 =v2\nput 3 k18 =v3\n\
+              get 0 k53\nget 10 k22\nget 8 k6\nsnap 6\nstop 12\nsnap 18\nstop 24\nrandom 7\n"
+                .as_slice()
     );
     Ok(())
 }
