@@ -7,10 +7,6 @@ use Rattle.std.specs.Ordering.{nat_cmp}
 use Rattle.std.specs.Cmp.Lexicographic.{slice_cmp}
 use Rattle.far_base.specs.declared.record.Record.{Record}
 use Rattle.far_model.specs.Log.{same_key}
-use Rattle.server_keeper.specs.declared.records.Versioned.{Versioned}
-
-abbrev pub held_of : Versioned → Versioned
-held_of v = record { num = v.num; body = v.body }
 
 -- an entry of the map is a record of its key
 abbrev pub record_of_entry : List ℕ × Versioned → Record
