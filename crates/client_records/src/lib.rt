@@ -1,13 +1,10 @@
-// A library with one function.
+//! A client: the operation that it waits for, and the records that it preserves until they are safe.
 #![tactic(auto)]
 
-ghost use Rattle.std.specs.Prelude.{◌≡◌};
-ghost use Rattle.client_records.specs.Echo.{echo_of};
+mod client;
+mod records;
 
-// The `ensures` clause is the contract: what `echo` returns is `echo_of` of its argument, a definition
-// in `specs/Echo.antt`, which a caller's clause can cite too.
-pub fn echo(x: usize) -> usize
-    ensures { result ≡ echo_of x }
-{
-    x
-}
+pub use client::Client;
+
+#[cfg(test)]
+mod tests;

@@ -8,9 +8,6 @@ use Rattle.std.specs.Cmp.Lexicographic.{slice_cmp}
 use Rattle.far_base.specs.declared.record.Record.{Record}
 use Rattle.far_model.specs.Log.{same_key}
 
-abbrev pub held_of : Versioned → Versioned
-held_of v = record { num = v.num; body = v.body }
-
 -- an entry of the map is a record of its key
 abbrev pub record_of_entry : List ℕ × Versioned → Record
 record_of_entry e = record { key = e.0; num = e.1.num; body = e.1.body }

@@ -1,6 +1,6 @@
-use Rattle.std.proofs.Common.{◌≡◌, ◌<◌, false, arith, ap, sym, ◌∙◌, length, subst}
+use Rattle.std.proofs.Common.{◌≡◌, ◌<◌, false, arith, ap, ◌∙◌, length}
 use Rattle.std.proofs.lemmas.List.{length-set}
-use Rattle.std.specs.Prelude.{is_some, slice_index_or, Option, None, Some}
+use Rattle.std.specs.Prelude.{is_some, slice_index_or, None, Some}
 use Rattle.far_model.specs.Snapshots.{Job}
 use Rattle.snapshot_core.specs.Parts.{parts_there}
 use Rattle.snapshot_core.proofs.Counted.{there_set}

@@ -1,4 +1,4 @@
-use Rattle.std.proofs.Common.{List, Option, ap, sym, ◌∙◌}
+use Rattle.std.proofs.Common.{ap, sym, ◌∙◌}
 use Rattle.std.specs.Prelude.{is_some, nat_eq}
 use Rattle.std.specs.List.{list_all}
 use Rattle.snapshot_core.proofs.Counted.{none_lacking}

@@ -1,4 +1,4 @@
-use Rattle.std.proofs.Common.{◌≡◌, ap, sym, ◌∙◌, false, true, Bool, Option, None, get_or, arith, List}
+use Rattle.std.proofs.Common.{◌≡◌, ap, sym, ◌∙◌, false, Bool, Option, None, get_or, arith, List}
 use Rattle.std.specs.Prelude.{is_some, slice_index_or}
 use Rattle.std.specs.Option.{unwrap_or}
 use Rattle.snapshot_core.proofs.Counted.{part_there}

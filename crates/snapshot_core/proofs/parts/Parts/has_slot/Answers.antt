@@ -1,4 +1,4 @@
-use Rattle.std.proofs.Common.{◌≡◌, ap, sym, ◌∙◌, length, arith}
+use Rattle.std.proofs.Common.{◌≡◌, ap, ◌∙◌, length, arith}
 use Rattle.std.specs.Prelude.{nat_lt}
 use Rattle.snapshot_core.proofs.Counted.{parts_length}
 use Rattle.snapshot_core.proofs.parts.Parts.has_slot.Goals as goal

@@ -1,7 +1,6 @@
-use Rattle.std.proofs.Common.{◌≡◌, ◌<◌, suc, false, true, arith, ap, sym, ◌∙◌, length, get_or, subst, List}
+use Rattle.std.proofs.Common.{◌≡◌, ◌<◌, false, true, arith, ap, sym, ◌∙◌, length, get_or}
 use Rattle.std.proofs.lemmas.List.{length-set}
-use Rattle.std.specs.Prelude.{is_some, slice_set, slice_index_or, Option, None, Some}
-use Rattle.snapshot_core.specs.Parts.{lacking}
+use Rattle.std.specs.Prelude.{is_some, slice_set, slice_index_or, None, Some}
 use Rattle.snapshot_core.proofs.Counted.{parts_length, part_there, parts_set, lacking_set}
 use Rattle.snapshot_core.proofs.parts.Parts.put.Goals as goal
 

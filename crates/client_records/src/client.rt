@@ -1,0 +1,129 @@
+use crate::records::{drop_up_to, put};
+use far_base::{Memory, Op, OpLine, Packet, Record};
+use std::alloc::Global;
+use std::marker::Model;
+
+/// A client: its number, the operation that it waits for, the version number up to which writes are safe, and the
+/// records above it that only the switch has, one of each key, in the order in which the keys were first preserved.
+#[derive(Drop)]
+pub struct Client {
+    number: u32,
+    open: Option<(u32, OpLine)>,
+    released: u64,
+    preserved: Vec<Record>,
+}
+
+impl Model for Client {
+    ghost use Rattle.std.specs.Prelude.{vec_len, vec_capacity};
+    ghost use Rattle.client_records.specs.ClientView.{ClientView, HasRoom};
+
+    ghost Value = { ClientView };
+
+    ghost view = { λ c. record { number = c.number; waits = c.open; released = c.released; preserved = c.preserved.items } };
+
+    ghost invariant = { λ c. HasRoom c.open (vec_len c.preserved) (vec_capacity c.preserved) };
+}
+
+ghost use Rattle.std.specs.Prelude.{◌≡◌, ◌^◌, ◌<◌, max, length, [], None, Some, slice_get, is_none, IfOk, OnOk, OnErr};
+ghost use Rattle.far_base.specs.declared.party.Party.TheVariants.{Controller};
+ghost use Rattle.far_model.specs.Clients as model;
+ghost use Rattle.far_model.specs.Parties.{to_party};
+ghost use Rattle.client_records.specs.ClientView.{ClientView, IsAnswer, open_op, state_of, seen_as, after_answer};
+
+impl Client {
+    /// A client that waits for nothing and preserves nothing.
+    pub fn new(alloc: Global, number: u32) -> Self
+        ensures { result ≡ record { number = number; waits = None; released = 0; preserved = [] } }
+    {
+        Client {
+            number,
+            open: None,
+            released: 0,
+            preserved: Vec::new(alloc),
+        }
+    }
+
+    /// Whether no operation is open.
+    pub fn is_idle(&self) -> bool
+        ensures { result ≡ is_none self.now.waits }
+    {
+        self.open.is_none()
+    }
+
+    /// The preserved records, in the order in which their keys were first preserved.
+    pub fn preserved(&self) -> &[Record]
+        ensures { result.now ≡ self.now.preserved }
+    {
+        &self.preserved
+    }
+
+    /// Opens operation `op` and answers what it asks the switch. It makes room for the record that the answer may
+    /// have preserved; where memory is refused the client stays as it was.
+    pub fn send(&mut self, op: u32, line: &OpLine) -> Result<Packet, Memory>
+        requires { self.old.waits ≡ None }
+        ensures packet { IfOk result (λ packet. packet ≡ model.request self.old.number op line.now) }
+        ensures open { OnOk result (self.new ≡ record self.old { waits = Some (op, line.now) }) }
+        ensures unchanged { OnErr result (self.new ≡ self.old) }
+    {
+        self.preserved.reserve(1)?;
+        self.open = Some((op, *line));
+        let caller = self.number;
+        let key = line.key;
+        Ok(match line.op {
+            Op::Get => Packet::GetReq { caller, op, key },
+            Op::Put | Op::Del => Packet::WriteReq {
+                caller,
+                op,
+                key,
+                body: line.body,
+            },
+        })
+    }
+
+    /// Closes the open operation, whose number is the answer. A write that only the switch has, above the released
+    /// number, is preserved.
+    pub fn answered(&mut self, packet: &Packet) -> u32
+        requires { IsAnswer self.old.waits packet.now }
+        ensures op { Some result ≡ open_op self.old.waits }
+        ensures client { self.new ≡ after_answer self.old packet.now }
+    {
+        let Some((op, line)) = self.open.take() else {
+            unreachable!()
+        };
+        if let Packet::WriteAns { num, kept, .. } = *packet {
+            if kept && self.released < num {
+                let rec = Record {
+                    key: line.key,
+                    num,
+                    body: line.body,
+                };
+                put(&mut self.preserved, rec);
+            }
+        }
+        op
+    }
+
+    /// Writes up to the number are safe: the released number becomes the greater of both, and records up to it are
+    /// dropped.
+    pub fn released(&mut self, point: u64)
+        ensures { self.new ≡ seen_as self.old (model.released_to point (state_of [] self.old)) }
+    {
+        self.released = self.released.max(point);
+        drop_up_to(&mut self.preserved, self.released);
+    }
+
+    /// What the client tells in the round of its `i`-th preserved record, counted from 0; with none, that there is
+    /// none. An `Ask` is answered by all of these in rising order.
+    pub fn tell(&self, round: u32, i: u32) -> Packet
+        requires few { length self.now.preserved < 2 ^ 32 }
+        requires there { i < max (length self.now.preserved) 1 }
+        ensures { slice_get (model.tells round self.now.number self.now.preserved) i ≡ Some (to_party Controller result) }
+    {
+        Packet::Told {
+            round,
+            caller: self.number,
+            total: self.preserved.len() as u32,
+            item: self.preserved.get(i as usize).copied(),
+        }
+    }
+}
