@@ -64,4 +64,5 @@ course_of_states plan states = record {
 }
 
 abbrev pub run_course : PlanView → List ℕ → ℕ → Course
-run_course plan picks most = course_of_states plan (states plan (opening plan) (picked_events plan most picks 0 (opening plan)))
+run_course plan picks most =
+    course_of_states plan (states plan (opening plan) (picked_events plan most picks 0 (opening plan)))

@@ -25,9 +25,9 @@ use Rattle.model_examples.specs.Words.{key_a, body_x, body_y, get, put, at, item
 -- a write comes between the peek and the removal
 abbrev pub write_between_traffic : Traffic
 write_between_traffic = record {
-  events = OrderOf 0 ∷ Tick ∷ Deliver 0 ∷ Deliver 0 ∷ Send 0 ∷ Deliver 0 ∷ Deliver 0 ∷ OrderOf 1 ∷ Deliver 0 ∷ Send 0
-      ∷ Deliver 1 ∷ Deliver 0 ∷ Deliver 0 ∷ Deliver 0 ∷ Deliver 0 ∷ Deliver 0 ∷ Deliver 0 ∷ Deliver 0 ∷ Deliver 0
-      ∷ Deliver 0 ∷ Deliver 0 ∷ Send 0 ∷ Deliver 0 ∷ Deliver 0 ∷ Deliver 0 ∷ Deliver 0 ∷ [];
+  events = OrderOf 0 ∷ Tick ∷ Deliver 0 ∷ Deliver 0 ∷ Send 0 ∷ Deliver 0 ∷ Deliver 0 ∷ OrderOf 1 ∷ Deliver 0
+      ∷ Send 0 ∷ Deliver 1 ∷ Deliver 0 ∷ Deliver 0 ∷ Deliver 0 ∷ Deliver 0 ∷ Deliver 0 ∷ Deliver 0 ∷ Deliver 0
+      ∷ Deliver 0 ∷ Deliver 0 ∷ Deliver 0 ∷ Send 0 ∷ Deliver 0 ∷ Deliver 0 ∷ Deliver 0 ∷ Deliver 0 ∷ [];
   taken =
       message Controller Switch (Admit 1 0 key_a 1)
       ∷ message Switch Controller (AdmitAck 0 1)

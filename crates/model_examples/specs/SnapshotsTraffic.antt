@@ -38,8 +38,8 @@ use Rattle.model_examples.specs.Words.{key_a, key_b, body_p, body_q, body_r, put
 abbrev pub slot_goes_on_traffic : Traffic
 slot_goes_on_traffic = record {
   events = OrderOf 0 ∷ Tick ∷ Deliver 0 ∷ Deliver 0 ∷ Send 0 ∷ Deliver 0 ∷ Deliver 0 ∷ OrderOf 1 ∷ Deliver 0
-      ∷ Deliver 0 ∷ OrderOf 2 ∷ Deliver 1 ∷ Deliver 1 ∷ Deliver 1 ∷ Deliver 1 ∷ Deliver 1 ∷ Deliver 1 ∷ OrderOf 3 ∷ Tick
-      ∷ Deliver 2 ∷ Deliver 2 ∷ Send 0 ∷ Deliver 2 ∷ Deliver 2 ∷ Deliver 0 ∷ Deliver 0 ∷ Deliver 0 ∷ [];
+      ∷ Deliver 0 ∷ OrderOf 2 ∷ Deliver 1 ∷ Deliver 1 ∷ Deliver 1 ∷ Deliver 1 ∷ Deliver 1 ∷ Deliver 1 ∷ OrderOf 3
+      ∷ Tick ∷ Deliver 2 ∷ Deliver 2 ∷ Send 0 ∷ Deliver 2 ∷ Deliver 2 ∷ Deliver 0 ∷ Deliver 0 ∷ Deliver 0 ∷ [];
   taken =
       message Controller Switch (Admit 1 0 key_a 1)
       ∷ message Switch Controller (AdmitAck 0 1)

@@ -123,19 +123,19 @@ stop_in_snapshot_traffic = record {
 abbrev pub records_told_in_parts_traffic : Traffic
 records_told_in_parts_traffic = record {
   events = OrderOf 0 ∷ OrderOf 1 ∷ OrderOf 2 ∷ Tick ∷ Deliver 0 ∷ Deliver 0 ∷ Tick ∷ Deliver 0 ∷ Deliver 0 ∷ Tick
-      ∷ Deliver 0 ∷ Deliver 0 ∷ Send 2 ∷ Deliver 0 ∷ Deliver 0 ∷ Deliver 0 ∷ Deliver 0 ∷ Send 1 ∷ Deliver 0 ∷ Deliver 0
-      ∷ Send 0 ∷ Deliver 0 ∷ Deliver 0 ∷ Send 0 ∷ Deliver 0 ∷ Deliver 0 ∷ OrderOf 3 ∷ Deliver 0 ∷ Deliver 0 ∷ Deliver 0
-      ∷ Deliver 0 ∷ Deliver 0 ∷ Deliver 0 ∷ Deliver 0 ∷ Deliver 0 ∷ Send 1 ∷ Deliver 3 ∷ Send 0 ∷ Deliver 4 ∷ Deliver 4
-      ∷ OrderOf 4 ∷ Deliver 4 ∷ Send 0 ∷ Deliver 5 ∷ Deliver 6 ∷ Deliver 5 ∷ Deliver 4 ∷ Deliver 4 ∷ Deliver 4
-      ∷ Deliver 4 ∷ Deliver 4 ∷ Deliver 4 ∷ Deliver 0 ∷ Deliver 3 ∷ Deliver 0 ∷ Deliver 1 ∷ Send 0 ∷ Deliver 2
-      ∷ Deliver 2 ∷ Send 1 ∷ Deliver 2 ∷ Deliver 2 ∷ Send 2 ∷ Deliver 2 ∷ Deliver 2 ∷ Send 1 ∷ Deliver 3 ∷ OrderOf 5
-      ∷ Deliver 3 ∷ Recover ∷ Deliver 3 ∷ Deliver 8 ∷ Deliver 3 ∷ Deliver 7 ∷ Deliver 8 ∷ Deliver 3 ∷ Deliver 10
-      ∷ Deliver 3 ∷ Deliver 9 ∷ Deliver 3 ∷ Deliver 8 ∷ Deliver 3 ∷ Deliver 7 ∷ Deliver 3 ∷ Deliver 6 ∷ Deliver 4
-      ∷ Deliver 5 ∷ Deliver 4 ∷ Deliver 4 ∷ Deliver 3 ∷ Deliver 3 ∷ Deliver 3 ∷ Deliver 5 ∷ Deliver 5 ∷ Deliver 4
-      ∷ Deliver 4 ∷ Deliver 3 ∷ Deliver 3 ∷ Restart ∷ OrderOf 6 ∷ Tick ∷ Deliver 3 ∷ Deliver 3 ∷ Deliver 2 ∷ Deliver 2
-      ∷ Deliver 1 ∷ Deliver 0 ∷ Send 2 ∷ Deliver 0 ∷ Deliver 0 ∷ Deliver 0 ∷ Deliver 0 ∷ Send 2 ∷ Deliver 0 ∷ Deliver 0
-      ∷ Send 1 ∷ Deliver 0 ∷ Deliver 0 ∷ Deliver 0 ∷ Deliver 0 ∷ Send 1 ∷ Deliver 0 ∷ Deliver 0 ∷ Deliver 0 ∷ Deliver 0
-      ∷ Send 0 ∷ Deliver 0 ∷ Deliver 0 ∷ Deliver 0 ∷ Deliver 0 ∷ [];
+      ∷ Deliver 0 ∷ Deliver 0 ∷ Send 2 ∷ Deliver 0 ∷ Deliver 0 ∷ Deliver 0 ∷ Deliver 0 ∷ Send 1 ∷ Deliver 0
+      ∷ Deliver 0 ∷ Send 0 ∷ Deliver 0 ∷ Deliver 0 ∷ Send 0 ∷ Deliver 0 ∷ Deliver 0 ∷ OrderOf 3 ∷ Deliver 0
+      ∷ Deliver 0 ∷ Deliver 0 ∷ Deliver 0 ∷ Deliver 0 ∷ Deliver 0 ∷ Deliver 0 ∷ Deliver 0 ∷ Send 1 ∷ Deliver 3
+      ∷ Send 0 ∷ Deliver 4 ∷ Deliver 4 ∷ OrderOf 4 ∷ Deliver 4 ∷ Send 0 ∷ Deliver 5 ∷ Deliver 6 ∷ Deliver 5
+      ∷ Deliver 4 ∷ Deliver 4 ∷ Deliver 4 ∷ Deliver 4 ∷ Deliver 4 ∷ Deliver 4 ∷ Deliver 0 ∷ Deliver 3 ∷ Deliver 0
+      ∷ Deliver 1 ∷ Send 0 ∷ Deliver 2 ∷ Deliver 2 ∷ Send 1 ∷ Deliver 2 ∷ Deliver 2 ∷ Send 2 ∷ Deliver 2 ∷ Deliver 2
+      ∷ Send 1 ∷ Deliver 3 ∷ OrderOf 5 ∷ Deliver 3 ∷ Recover ∷ Deliver 3 ∷ Deliver 8 ∷ Deliver 3 ∷ Deliver 7
+      ∷ Deliver 8 ∷ Deliver 3 ∷ Deliver 10 ∷ Deliver 3 ∷ Deliver 9 ∷ Deliver 3 ∷ Deliver 8 ∷ Deliver 3 ∷ Deliver 7
+      ∷ Deliver 3 ∷ Deliver 6 ∷ Deliver 4 ∷ Deliver 5 ∷ Deliver 4 ∷ Deliver 4 ∷ Deliver 3 ∷ Deliver 3 ∷ Deliver 3
+      ∷ Deliver 5 ∷ Deliver 5 ∷ Deliver 4 ∷ Deliver 4 ∷ Deliver 3 ∷ Deliver 3 ∷ Restart ∷ OrderOf 6 ∷ Tick ∷ Deliver 3
+      ∷ Deliver 3 ∷ Deliver 2 ∷ Deliver 2 ∷ Deliver 1 ∷ Deliver 0 ∷ Send 2 ∷ Deliver 0 ∷ Deliver 0 ∷ Deliver 0
+      ∷ Deliver 0 ∷ Send 2 ∷ Deliver 0 ∷ Deliver 0 ∷ Send 1 ∷ Deliver 0 ∷ Deliver 0 ∷ Deliver 0 ∷ Deliver 0 ∷ Send 1
+      ∷ Deliver 0 ∷ Deliver 0 ∷ Deliver 0 ∷ Deliver 0 ∷ Send 0 ∷ Deliver 0 ∷ Deliver 0 ∷ Deliver 0 ∷ Deliver 0 ∷ [];
   taken =
       message Controller Switch (Admit 1 0 key_a 1)
       ∷ message Switch Controller (AdmitAck 0 1)

@@ -1,5 +1,26 @@
 -- What a run shows, computed step by step from the definitions: slow, and plain.
-use Rattle.std.specs.Prelude.{ℕ, zero, suc, max, Bool, true, false, ◌&&◌, ◌||◌, nat_eq, nat_le, nat_lt, if◌then◌else◌, List, [], ◌∷◌, length, Option, None, Some}
+use Rattle.std.specs.Prelude.{
+  ℕ,
+  zero,
+  suc,
+  max,
+  Bool,
+  true,
+  false,
+  ◌&&◌,
+  ◌||◌,
+  nat_eq,
+  nat_le,
+  nat_lt,
+  if◌then◌else◌,
+  List,
+  [],
+  ◌∷◌,
+  length,
+  Option,
+  None,
+  Some,
+}
 use Rattle.far_base.specs.PlanView.{PlanView}
 use Rattle.far_base.specs.declared.log.LogLine.{LogLine}
 use Rattle.far_base.specs.declared.log.LogEntry.{LogEntry}
@@ -18,7 +39,8 @@ use Rattle.far_model.specs.State.{State, opening}
 
 abbrev pub first_from : List LogLine → List ℕ → ℕ → ℕ → ℕ → Option ℕ
 first_from log key num moment zero = None
-first_from log key num moment (suc more) = if nat_le num (exposed log key moment) then Some moment else first_from log key num (suc moment) more
+first_from log key num moment (suc more) =
+    if nat_le num (exposed log key moment) then Some moment else first_from log key num (suc moment) more
 
 -- the first moment up to the last step at which the number is exposed
 abbrev pub moment_of : ℕ → List LogLine → List ℕ → ℕ → Option ℕ
@@ -26,23 +48,36 @@ moment_of steps log key num = first_from log key num 0 (suc steps)
 
 abbrev pub placed_at : ℕ → ℕ → Bool → ℕ → Option ℕ → List Placed
 placed_at op num read sent None = []
-placed_at op num read sent (Some moment) = record { moment = if read then max moment sent else moment; num = num; read = read; op = op } ∷ []
+placed_at op num read sent (Some moment) =
+    record { moment = if read then max moment sent else moment; num = num; read = read; op = op } ∷ []
 
 abbrev pub place_read : ℕ → List LogLine → ℕ → At OpLine → Option (At Answer) → Option (At ℕ) → List Placed
 place_read steps log op sent None answered = []
 place_read steps log op sent (Some e) None = []
-place_read steps log op sent (Some e) (Some a) = placed_at op e.what.num true sent.moment (moment_of steps log sent.what.key e.what.num)
+place_read steps log op sent (Some e) (Some a) =
+    placed_at op e.what.num true sent.moment (moment_of steps log sent.what.key e.what.num)
 
 abbrev pub place_write : ℕ → List LogLine → ℕ → At OpLine → Option (At ℕ) → List Placed
 place_write steps log op sent None = []
-place_write steps log op sent (Some n) = placed_at op n.what false sent.moment (moment_of steps log sent.what.key n.what)
+place_write steps log op sent (Some n) =
+    placed_at op n.what false sent.moment (moment_of steps log sent.what.key n.what)
 
 abbrev pub place_sent : ℕ → List LogLine → ℕ → Option (At OpLine) → List Placed
 place_sent steps log op None = []
-place_sent steps log op (Some s) = if is_read s.what.op then place_read steps log op s (emission log op) (answering log op) else place_write steps log op s (numbering log op)
+place_sent steps log op (Some s) =
+    if is_read s.what.op
+    then place_read steps log op s (emission log op) (answering log op)
+    else place_write steps log op s (numbering log op)
+
+abbrev pub is_ranked_before : Placed → Placed → Bool
+is_ranked_before x y =
+    nat_lt (read_rank x.read) (read_rank y.read) || (nat_eq (read_rank x.read) (read_rank y.read) && nat_lt x.op y.op)
+
+abbrev pub is_numbered_before : Placed → Placed → Bool
+is_numbered_before x y = nat_lt x.num y.num || (nat_eq x.num y.num && is_ranked_before x y)
 
 abbrev pub is_before : Placed → Placed → Bool
-is_before x y = nat_lt x.moment y.moment || (nat_eq x.moment y.moment && (nat_lt x.num y.num || (nat_eq x.num y.num && (nat_lt (read_rank x.read) (read_rank y.read) || (nat_eq (read_rank x.read) (read_rank y.read) && nat_lt x.op y.op)))))
+is_before x y = nat_lt x.moment y.moment || (nat_eq x.moment y.moment && is_numbered_before x y)
 
 abbrev pub in_order : Placed → List Placed → List Placed
 in_order p [] = p ∷ []
@@ -55,7 +90,8 @@ all_in_order (x ∷ xs) ys = in_order x (all_in_order xs ys)
 -- the places of operations from `op` on, in their order
 abbrev pub history_from : ℕ → List LogLine → ℕ → ℕ → List Placed
 history_from steps log op zero = []
-history_from steps log op (suc more) = all_in_order (place_sent steps log op (sending log op)) (history_from steps log (suc op) more)
+history_from steps log op (suc more) =
+    all_in_order (place_sent steps log op (sending log op)) (history_from steps log (suc op) more)
 
 -- ---- what is shown of an operation
 
@@ -80,7 +116,14 @@ row_near None = false
 row_near (Some e) = e.what.near
 
 abbrev pub row_of : List LogLine → Placed → HistoryRow
-row_of log p = record { op = p.op; num = p.num; body = row_body log p (emission log p.op); near = row_near (emission log p.op); sent = moment_or (sending log p.op); answered = moment_or (answering log p.op) }
+row_of log p = record {
+  op = p.op;
+  num = p.num;
+  body = row_body log p (emission log p.op);
+  near = row_near (emission log p.op);
+  sent = moment_or (sending log p.op);
+  answered = moment_or (answering log p.op);
+}
 
 abbrev pub rows_of : List LogLine → List Placed → List HistoryRow
 rows_of log [] = []
@@ -115,7 +158,12 @@ pub record RunTable : Type 0 where
   pub map : List Record
 
 abbrev pub table_of_history : State → List Placed → RunTable
-table_of_history s h = record { steps = s.steps; history = rows_of s.log h; control = control_of s.log; map = by_key (after_writes s.log [] h) }
+table_of_history s h = record {
+  steps = s.steps;
+  history = rows_of s.log h;
+  control = control_of s.log;
+  map = by_key (after_writes s.log [] h);
+}
 
 -- the history of the operations of the plan
 abbrev pub history_of : PlanView → State → List Placed

@@ -94,11 +94,13 @@ del client key = record { client = client; op = Del; key = key; body = None }
 
 -- the operation, its number and body, and when it was sent and answered: by a server
 abbrev pub by_server : ℕ → ℕ → Option (List ℕ) → ℕ → ℕ → HistoryRow
-by_server op num body sent answered = record { op = op; num = num; body = body; near = false; sent = sent; answered = answered }
+by_server op num body sent answered =
+    record { op = op; num = num; body = body; near = false; sent = sent; answered = answered }
 
 -- the same, where the switch answered by itself
 abbrev pub by_switch : ℕ → ℕ → Option (List ℕ) → ℕ → ℕ → HistoryRow
-by_switch op num body sent answered = record { op = op; num = num; body = body; near = true; sent = sent; answered = answered }
+by_switch op num body sent answered =
+    record { op = op; num = num; body = body; near = true; sent = sent; answered = answered }
 
 -- an entry of the log, and the step at which it was made
 abbrev pub at : ℕ → LogEntry → LogLine
