@@ -1,8 +1,8 @@
 //! Worked runs of the whole machine, computed from the definitions alone: each is the contract of a function that does
 //! nothing. `table` is the steps, the history, the control entries and the final map; `course` is, in each state,
 //! the work that is left and how many events can happen, where all is finished, and the servers' records at the end. Of
-//! some runs `last` says that the final map has the last write of each key, and `traffic` is each event, each message
-//! that was taken, and the whole log.
+//! most runs `last` says that the final map has the last write of each key; of some `traffic` is each event, each
+//! message that was taken, and the whole log.
 #![tactic(auto)]
 
 mod evictions;

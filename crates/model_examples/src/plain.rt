@@ -9,6 +9,7 @@ ghost use Rattle.model_examples.specs.PlainTraffic;
 pub fn nothing_to_do()
     ensures table { table_of Plain.nothing_to_do ≡ Plain.nothing_to_do.table }
     ensures course { course_of Plain.nothing_to_do ≡ Plain.nothing_to_do.course }
+    ensures last { last_of Plain.nothing_to_do ≡ Plain.nothing_to_do.table.map }
 {}
 
 /// A put and a get of one key.
@@ -23,6 +24,7 @@ pub fn put_and_get()
 pub fn never_written()
     ensures table { table_of Plain.never_written ≡ Plain.never_written.table }
     ensures course { course_of Plain.never_written ≡ Plain.never_written.course }
+    ensures last { last_of Plain.never_written ≡ Plain.never_written.table.map }
 {}
 
 /// The second put reaches the server first.

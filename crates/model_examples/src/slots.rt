@@ -9,18 +9,21 @@ ghost use Rattle.model_examples.specs.SlotsTraffic;
 pub fn reply_raises_latest()
     ensures table { table_of Slots.reply_raises_latest ≡ Slots.reply_raises_latest.table }
     ensures course { course_of Slots.reply_raises_latest ≡ Slots.reply_raises_latest.course }
+    ensures last { last_of Slots.reply_raises_latest ≡ Slots.reply_raises_latest.table.map }
 {}
 
 /// The reply of the put passes an outdated slot, and the older tagged reply does not make it latest.
 pub fn reply_raises_outdated()
     ensures table { table_of Slots.reply_raises_outdated ≡ Slots.reply_raises_outdated.table }
     ensures course { course_of Slots.reply_raises_outdated ≡ Slots.reply_raises_outdated.course }
+    ensures last { last_of Slots.reply_raises_outdated ≡ Slots.reply_raises_outdated.table.map }
 {}
 
 /// A reply under the first tag comes back after eviction and a second admission.
 pub fn old_tag_returns()
     ensures table { table_of Slots.old_tag_returns ≡ Slots.old_tag_returns.table }
     ensures course { course_of Slots.old_tag_returns ≡ Slots.old_tag_returns.course }
+    ensures last { last_of Slots.old_tag_returns ≡ Slots.old_tag_returns.table.map }
 {}
 
 /// A key grows hot, and its absence is cached.
@@ -41,6 +44,7 @@ pub fn keys_grow_hot()
 pub fn key_moves_to_another_slot()
     ensures table { table_of Slots.key_moves_to_another_slot ≡ Slots.key_moves_to_another_slot.table }
     ensures course { course_of Slots.key_moves_to_another_slot ≡ Slots.key_moves_to_another_slot.course }
+    ensures last { last_of Slots.key_moves_to_another_slot ≡ Slots.key_moves_to_another_slot.table.map }
 {}
 
 /// Replies of reads and writes, late and early, come to latest and to outdated slots.

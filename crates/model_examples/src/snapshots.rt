@@ -9,6 +9,7 @@ ghost use Rattle.model_examples.specs.SnapshotsTraffic;
 pub fn overwritten_before_read()
     ensures table { table_of Snapshots.overwritten_before_read ≡ Snapshots.overwritten_before_read.table }
     ensures course { course_of Snapshots.overwritten_before_read ≡ Snapshots.overwritten_before_read.course }
+    ensures last { last_of Snapshots.overwritten_before_read ≡ Snapshots.overwritten_before_read.table.map }
 {}
 
 /// The slot goes to another key before the snapshot reads it.
@@ -39,4 +40,5 @@ pub fn one_slot_changed()
 pub fn four_snapshots()
     ensures table { table_of Snapshots.four_snapshots ≡ Snapshots.four_snapshots.table }
     ensures course { course_of Snapshots.four_snapshots ≡ Snapshots.four_snapshots.course }
+    ensures last { last_of Snapshots.four_snapshots ≡ Snapshots.four_snapshots.table.map }
 {}

@@ -9,12 +9,14 @@ ghost use Rattle.model_examples.specs.StopsTraffic;
 pub fn release_overtakes()
     ensures table { table_of Stops.release_overtakes ≡ Stops.release_overtakes.table }
     ensures course { course_of Stops.release_overtakes ≡ Stops.release_overtakes.course }
+    ensures last { last_of Stops.release_overtakes ≡ Stops.release_overtakes.table.map }
 {}
 
 /// The switch stops while the answer of a write that another client has read is on its way.
 pub fn stop_with_answer()
     ensures table { table_of Stops.stop_with_answer ≡ Stops.stop_with_answer.table }
     ensures course { course_of Stops.stop_with_answer ≡ Stops.stop_with_answer.course }
+    ensures last { last_of Stops.stop_with_answer ≡ Stops.stop_with_answer.table.map }
 {}
 
 /// The switch stops in the middle of the second snapshot.
@@ -29,12 +31,14 @@ pub fn stop_in_snapshot()
 pub fn two_stops()
     ensures table { table_of Stops.two_stops ≡ Stops.two_stops.table }
     ensures course { course_of Stops.two_stops ≡ Stops.two_stops.course }
+    ensures last { last_of Stops.two_stops ≡ Stops.two_stops.table.map }
 {}
 
 /// After a stop the next snapshot is not by difference.
 pub fn stop_between_snapshots()
     ensures table { table_of Stops.stop_between_snapshots ≡ Stops.stop_between_snapshots.table }
     ensures course { course_of Stops.stop_between_snapshots ≡ Stops.stop_between_snapshots.course }
+    ensures last { last_of Stops.stop_between_snapshots ≡ Stops.stop_between_snapshots.table.map }
 {}
 
 /// Three clients tell several records each, in parts that overtake each other.
@@ -48,12 +52,14 @@ pub fn records_told_in_parts()
 pub fn late_store_in_round()
     ensures table { table_of Stops.late_store_in_round ≡ Stops.late_store_in_round.table }
     ensures course { course_of Stops.late_store_in_round ≡ Stops.late_store_in_round.course }
+    ensures last { last_of Stops.late_store_in_round ≡ Stops.late_store_in_round.table.map }
 {}
 
 /// A removal and a store of evictions that stops cut off come to the next epochs.
 pub fn late_removal_and_store()
     ensures table { table_of Stops.late_removal_and_store ≡ Stops.late_removal_and_store.table }
     ensures course { course_of Stops.late_removal_and_store ≡ Stops.late_removal_and_store.course }
+    ensures last { last_of Stops.late_removal_and_store ≡ Stops.late_removal_and_store.table.map }
 {}
 
 /// Orders whose steps have come wait until they are possible.
