@@ -1,5 +1,4 @@
 //! What the turn of one party leaves as it was, so that what is proved of one part never sees the others.
-#![tactic(auto)]
 
 ghost use Rattle.std.specs.Prelude.{ℕ, List, Option};
 ghost use Rattle.far_base.specs.PlanView.{PlanView};
@@ -12,7 +11,7 @@ ghost use Rattle.far_model.specs.Parties.{Turn};
 ghost use Rattle.far_model.specs.Pass.{Passed, with_slot};
 ghost use Rattle.far_model.specs.State.{State};
 ghost use Rattle.far_model.specs.View.{SlotView, SwitchView};
-ghost use Rattle.part_laws.specs.Untouched.{ClientsUntouched, ControllerUntouched, OtherClientsUntouched, OtherServersUntouched, OtherSlotsUntouched, PassesUntouched, ServersUntouched, SwitchUntouched};
+ghost use Rattle.model_laws.specs.Untouched.{ClientsUntouched, ControllerUntouched, OtherClientsUntouched, OtherServersUntouched, OtherSlotsUntouched, PassesUntouched, ServersUntouched, SwitchUntouched};
 
 /// A client's turn leaves the switch, the servers, the controller and the other clients.
 pub fn client_turns()

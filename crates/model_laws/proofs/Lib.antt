@@ -1,0 +1,4 @@
+pub mod Exposed
+pub mod Picking
+pub mod Places
+pub mod Sorting

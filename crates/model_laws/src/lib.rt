@@ -1,0 +1,17 @@
+//! Small laws of the definitions: functions with no code, whose contracts say of one definition what a reader takes it
+//! to mean.
+#![tactic(auto)]
+
+mod covers;
+mod histories;
+mod picks;
+mod records;
+mod turns;
+
+pub use covers::covers_hold_below;
+pub use histories::{every_log_has_one_history, exposed_is_the_least_bound};
+pub use picks::picks_choose_one_run;
+pub use records::newest_is_one;
+pub use turns::{
+    client_turns, controller_turns, server_turns, slots_are_set_alone, stops_leave, switch_turns,
+};
