@@ -1,4 +1,5 @@
 pub mod Exposed
 pub mod Picking
 pub mod Places
+pub mod Serving
 pub mod Sorting

@@ -1,3 +1,4 @@
 pub mod Answers
 pub mod Below
+pub mod Ticks
 pub mod Untouched
