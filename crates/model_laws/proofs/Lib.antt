@@ -1,5 +1,7 @@
+pub mod Answering
 pub mod Exposed
 pub mod Picking
 pub mod Places
+pub mod Removing
 pub mod Serving
 pub mod Sorting

@@ -1,4 +1,6 @@
 pub mod Answers
 pub mod Below
+pub mod Removals
+pub mod Rounds
 pub mod Ticks
 pub mod Untouched

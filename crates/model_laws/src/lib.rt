@@ -2,6 +2,7 @@
 //! to mean.
 #![tactic(auto)]
 
+mod controller;
 mod covers;
 mod histories;
 mod picks;
@@ -9,6 +10,7 @@ mod records;
 mod ticks;
 mod turns;
 
+pub use controller::{latest_slots_are_stored_first, ready_is_all_answered};
 pub use covers::covers_hold_below;
 pub use histories::{every_log_has_one_history, exposed_is_the_least_bound};
 pub use picks::picks_choose_one_run;
