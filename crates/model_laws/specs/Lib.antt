@@ -1,5 +1,6 @@
 pub mod Answers
 pub mod Below
+pub mod Passes
 pub mod Removals
 pub mod Rounds
 pub mod Ticks

@@ -5,6 +5,7 @@
 mod controller;
 mod covers;
 mod histories;
+mod passes;
 mod picks;
 mod records;
 mod ticks;
@@ -13,6 +14,7 @@ mod turns;
 pub use controller::{latest_slots_are_stored_first, ready_is_all_answered};
 pub use covers::covers_hold_below;
 pub use histories::{every_log_has_one_history, exposed_is_the_least_bound};
+pub use passes::{parts_leave_at_first_changes, passes_change_their_own};
 pub use picks::picks_choose_one_run;
 pub use records::newest_is_one;
 pub use ticks::{
