@@ -1,16 +1,12 @@
 -- A round is ready where all have answered.
-use Rattle.std.proofs.Common.{
-  ◌≡◌, ◌≢◌, ◌⊎◌, inl, inr, ℕ, zero, ◌≤◌, ◌<◌, max, Bool, true, false, ◌&&◌, List, [], ◌∷◌, refl, sym, ap, ◌∙◌, subst, arith, true≢false,
-  eq-eqb, eqb-true, leb-true, le-leb,
-}
-use Rattle.std.specs.Prelude.{Option, None, Some, if◌then◌else◌, is_some, nat_eq, nat_le, slice_get}
+use Rattle.std.proofs.Common.{◌≡◌, ◌≢◌, ◌⊎◌, inl, inr, ℕ, ◌≤◌, ◌<◌, max, Bool, true, false, ◌&&◌, List, [], ◌∷◌, refl, sym, ap, ◌∙◌, subst, arith, true≢false, eq-eqb, eqb-true, leb-true, le-leb}
+use Rattle.std.specs.Prelude.{Option, None, Some, if◌then◌else◌, is_some, nat_eq}
 use Rattle.std.specs.List.{list_all}
-use Rattle.std.proofs.Math.Nat.{le-max_left, le-max_right}
 use Rattle.std.proofs.lemmas.Bool.{cases_lt}
 use Rattle.std.proofs.lemmas.Option.{none-some, same_Some}
 use Rattle.far_model.specs.Controller.{ControllerState, ready, ready_in}
 use Rattle.far_model.specs.Members.{Among}
-use Rattle.far_model.specs.Rounds.{Round, Telling, greatest_top, has_told, ready_counter, told_of}
+use Rattle.far_model.specs.Rounds.{Round, Telling, greatest_top, has_told, told_of}
 use Rattle.far_model.proofs.Members.{among_at, place_of}
 use Rattle.model_laws.specs.Rounds.{AllHaveAnswered, HasTold, IsFromTops, IsGreatestTop, IsReady}
 

@@ -1,5 +1,6 @@
 pub mod Answering
 pub mod Exposed
+pub mod Parting
 pub mod Passing
 pub mod Picking
 pub mod Places

@@ -1,26 +1,13 @@
 -- A pass changes only what its row names.
-use Rattle.std.proofs.Common.{
-  ◌≡◌, ◌≢◌, ◌⊎◌, inl, inr, ℕ, ◌+◌, ◌<◌, Bool, true, false, cond, ◌&&◌, List, [], ◌∷◌, ◌++◌, length, set, get_or, refl, sym, ap, ◌∙◌,
-  subst, arith, true≢false, get_or-set_same, get_or-set_other, eq-eqb,
-}
+use Rattle.std.proofs.Common.{◌≡◌, ◌≢◌, ℕ, ◌+◌, Bool, true, false, cond, ◌&&◌, List, refl, sym, ap, ◌∙◌, true≢false, get_or-set_other}
 use Rattle.std.specs.Prelude.{Option, None, Some, if◌then◌else◌, nat_eq, not}
-use Rattle.std.proofs.lemmas.Bool.{cases_Bool, cases_eq}
-use Rattle.std.proofs.lemmas.Option.{none-some, same_Some}
 use Rattle.far_base.specs.declared.packet.Out.{Out}
 use Rattle.far_base.specs.declared.packet.Packet.{Packet}
-use Rattle.far_base.specs.declared.packet.Packet.TheVariants.{
-  GetReq, WriteReq, GetFwd, WriteFwd, GetRep, WriteRep, GetAns, WriteAns, Hot, Admit, AdmitAck, Peek, PeekAns, Remove, RemoveAns,
-  SnapStart, SnapBegun, SnapRead, SnapPart, Store, Stored, Release, Ask, Told, TopAsk, TopIs, SnapSame, SnapFrom,
-}
+use Rattle.far_base.specs.declared.packet.Packet.TheVariants.{GetReq, WriteReq, GetRep, WriteRep, Admit, Peek, Remove, SnapStart, SnapRead, SnapFrom}
 use Rattle.far_base.specs.declared.record.Record.{Record}
-use Rattle.far_model.specs.Pass.{
-  Passed, absorbing, admitted, admits, changed_view, changes, dropped, is_slot_there, may_go, numbered, pass, peeks, raised, read_at,
-  read_passes, reads_part, removes, reply_passes, starts_snapshot, takes_reply, with_slot, with_taken, write_passes,
-}
-use Rattle.far_model.specs.View.{
-  SlotView, SwitchView, empty_slot, entry_place, held_record, is_taken, keyed_record, mark_of, shown_at, slot_at, taken_at,
-}
-use Rattle.model_laws.specs.Passes.{ChangesItsOwn, SlotStays, concerned_place, is_admission, is_request, is_start, is_write}
+use Rattle.far_model.specs.Pass.{Passed, absorbing, admitted, admits, changed_view, changes, dropped, is_slot_there, may_go, numbered, pass, peeks, raised, read_passes, reads_part, removes, reply_passes, starts_snapshot, takes_reply, with_slot, with_taken, write_passes}
+use Rattle.far_model.specs.View.{SlotView, SwitchView, empty_slot, entry_place, held_record, is_taken, mark_of, slot_at}
+use Rattle.model_laws.specs.Passes.{ChangesItsOwn, SlotStays, concerned_place, is_start, is_write}
 
 -- what holds of both branches
 pub by_test : {A : Type 0} (P : A → Type 0) (b : Bool) (x y : A) → P x → P y → P (cond b x y)
@@ -28,19 +15,25 @@ by_test P true x y p q = p
 by_test P false x y p q = q
 
 -- a packet that starts no snapshot, admits no key and numbers no write changes one slot at most
-record Slots (v : SwitchView) (place : Option ℕ) (w : SwitchView) : Type 0 where
-  config : w.config ≡ v.config
-  epoch : w.epoch ≡ v.epoch
-  counter : w.counter ≡ v.counter
-  snap : w.snap ≡ v.snap
-  base : w.base ≡ v.base
-  bound : w.bound ≡ v.bound
-  hot : w.hot ≡ v.hot
-  others : (other : ℕ) → place ≢ Some other → SlotStays v w other
+pub record Slots (v : SwitchView) (place : Option ℕ) (w : SwitchView) : Type 0 where
+  pub config : w.config ≡ v.config
+  pub epoch : w.epoch ≡ v.epoch
+  pub counter : w.counter ≡ v.counter
+  pub snap : w.snap ≡ v.snap
+  pub base : w.base ≡ v.base
+  pub bound : w.bound ≡ v.bound
+  pub hot : w.hot ≡ v.hot
+  pub others : (other : ℕ) → place ≢ Some other → SlotStays v w other
 
 same : (v : SwitchView) (place : Option ℕ) → Slots v place v
 same v place = record {
-  config = refl; epoch = refl; counter = refl; snap = refl; base = refl; bound = refl; hot = refl;
+  config = refl;
+  epoch = refl;
+  counter = refl;
+  snap = refl;
+  base = refl;
+  bound = refl;
+  hot = refl;
   others = λ other apart. record { slot = refl; taken = refl; shown = refl };
 }
 
@@ -49,13 +42,25 @@ apart_from i other h e = h (ap Some (sym e))
 
 one_slot : (v : SwitchView) (i : ℕ) (slot : SlotView) → Slots v (Some i) (with_slot v i slot)
 one_slot v i slot = record {
-  config = refl; epoch = refl; counter = refl; snap = refl; base = refl; bound = refl; hot = refl;
+  config = refl;
+  epoch = refl;
+  counter = refl;
+  snap = refl;
+  base = refl;
+  bound = refl;
+  hot = refl;
   others = λ other apart. record { slot = get_or-set_other v.slots i other slot empty_slot (apart_from i other apart); taken = refl; shown = refl };
 }
 
 one_taken : (v : SwitchView) (i : ℕ) (view : Option Record) → Slots v (Some i) (with_taken v i view)
 one_taken v i view = record {
-  config = refl; epoch = refl; counter = refl; snap = refl; base = refl; bound = refl; hot = refl;
+  config = refl;
+  epoch = refl;
+  counter = refl;
+  snap = refl;
+  base = refl;
+  bound = refl;
+  hot = refl;
   others = λ other apart. record {
     slot = refl;
     taken = get_or-set_other v.taken i other v.snap 0 (apart_from i other apart);
@@ -65,7 +70,13 @@ one_taken v i view = record {
 
 both_changed : (v : SwitchView) (i : ℕ) (slot : SlotView) (view : Option Record) → Slots v (Some i) (with_taken (with_slot v i slot) i view)
 both_changed v i slot view = record {
-  config = refl; epoch = refl; counter = refl; snap = refl; base = refl; bound = refl; hot = refl;
+  config = refl;
+  epoch = refl;
+  counter = refl;
+  snap = refl;
+  base = refl;
+  bound = refl;
+  hot = refl;
   others = λ other apart. record {
     slot = get_or-set_other v.slots i other slot empty_slot (apart_from i other apart);
     taken = get_or-set_other v.taken i other v.snap 0 (apart_from i other apart);
@@ -73,7 +84,7 @@ both_changed v i slot view = record {
   };
 }
 
-changed_slots : (v : SwitchView) (i : ℕ) (slot : SlotView) → Slots v (Some i) (changed_view v i slot)
+pub changed_slots : (v : SwitchView) (i : ℕ) (slot : SlotView) → Slots v (Some i) (changed_view v i slot)
 changed_slots v i slot = by_test (Slots v (Some i)) (is_taken v i) (with_slot v i slot) (with_taken (with_slot v i slot) i (held_record (slot_at v i)))
     (one_slot v i slot) (both_changed v i slot (held_record (slot_at v i)))
 
@@ -92,8 +103,14 @@ removed_slots v i tag latest num slot = by_test (λ (p : Passed). Slots v (Some 
 
 of_slots : (v : SwitchView) (packet : Packet) (w : SwitchView) → is_write packet ≡ false → Slots v (concerned_place v packet) w → ChangesItsOwn v packet w
 of_slots v packet w h s = record {
-  config = s.config; epoch = s.epoch; counter = s.counter ∙ ap (λ b. if b then v.counter + 1 else v.counter) (sym h); snap = λ e. s.snap; base = λ e. s.base;
-  bound = λ e. s.bound; hot = λ e. s.hot; others = s.others;
+  config = s.config;
+  epoch = s.epoch;
+  counter = s.counter ∙ ap (λ b. if b then v.counter + 1 else v.counter) (sym h);
+  snap = λ e. s.snap;
+  base = λ e. s.base;
+  bound = λ e. s.bound;
+  hot = λ e. s.hot;
+  others = s.others;
 }
 
 pub unchanged : (v : SwitchView) (packet : Packet) → is_write packet ≡ false → ChangesItsOwn v packet v
@@ -102,31 +119,61 @@ unchanged v packet h = of_slots v packet v h (same v (concerned_place v packet))
 read_own : (v : SwitchView) (caller op : ℕ) (key : List ℕ) (place : Option ℕ) → ChangesItsOwn v (GetReq caller op key) (read_passes v caller op key place).view
 read_own v caller op key (Some i) = unchanged v (GetReq caller op key) refl
 read_own v caller op key None = record {
-  config = refl; epoch = refl; counter = refl; snap = λ e. refl; base = λ e. refl; bound = λ e. refl; hot = λ e. absurd (true≢false e);
+  config = refl;
+  epoch = refl;
+  counter = refl;
+  snap = λ e. refl;
+  base = λ e. refl;
+  bound = λ e. refl;
+  hot = λ e. absurd (true≢false e);
   others = λ other apart. record { slot = refl; taken = refl; shown = refl };
 }
 
 write_own : (v : SwitchView) (caller op : ℕ) (key : List ℕ) (body : Option (List ℕ)) (place : Option ℕ) → entry_place key v ≡ place → ChangesItsOwn v (WriteReq caller op key body) (write_passes (numbered v) caller op key body place).view
 write_own v caller op key body (Some i) at =
     let s = changed_slots (numbered v) i (absorbing (v.counter + 1) body (slot_at v i)) in record {
-      config = s.config; epoch = s.epoch; counter = s.counter; snap = λ e. s.snap; base = λ e. s.base; bound = λ e. s.bound; hot = λ e. absurd (true≢false e);
+      config = s.config;
+      epoch = s.epoch;
+      counter = s.counter;
+      snap = λ e. s.snap;
+      base = λ e. s.base;
+      bound = λ e. s.bound;
+      hot = λ e. absurd (true≢false e);
       others = λ other apart. let o = s.others other (λ e. apart (at ∙ e)) in record { slot = o.slot; taken = o.taken; shown = o.shown };
     }
 write_own v caller op key body None at = record {
-  config = refl; epoch = refl; counter = refl; snap = λ e. refl; base = λ e. refl; bound = λ e. refl; hot = λ e. absurd (true≢false e);
+  config = refl;
+  epoch = refl;
+  counter = refl;
+  snap = λ e. refl;
+  base = λ e. refl;
+  bound = λ e. refl;
+  hot = λ e. absurd (true≢false e);
   others = λ other apart. record { slot = refl; taken = refl; shown = refl };
 }
 
 admit_own : (v : SwitchView) (epoch i : ℕ) (key : List ℕ) (tag : ℕ) → ChangesItsOwn v (Admit epoch i key tag) (admits v i key tag).view
 admit_own v epoch i key tag = record {
-  config = refl; epoch = refl; counter = refl; snap = λ e. refl; base = λ e. refl; bound = λ e. absurd (true≢false e); hot = λ e. refl;
+  config = refl;
+  epoch = refl;
+  counter = refl;
+  snap = λ e. refl;
+  base = λ e. refl;
+  bound = λ e. absurd (true≢false e);
+  hot = λ e. refl;
   others = λ other apart. record { slot = get_or-set_other v.slots i other (admitted key tag (slot_at v i)) empty_slot (apart_from i other apart); taken = refl; shown = refl };
 }
 
 start_own : (v : SwitchView) (packet : Packet) (id base : ℕ) → is_write packet ≡ false → is_start packet ≡ true → ChangesItsOwn v packet (starts_snapshot v id base).view
 start_own v packet id base h s = record {
-  config = refl; epoch = refl; counter = ap (λ b. if b then v.counter + 1 else v.counter) (sym h); snap = λ e. absurd (true≢false (sym s ∙ e));
-  base = λ e. absurd (true≢false (sym s ∙ e)); bound = λ e. refl; hot = λ e. refl; others = λ other apart. record { slot = refl; taken = refl; shown = refl };
+  config = refl;
+  epoch = refl;
+  counter = ap (λ b. if b then v.counter + 1 else v.counter) (sym h);
+  snap = λ e. absurd (true≢false (sym s ∙ e));
+  base = λ e. absurd (true≢false (sym s ∙ e));
+  bound = λ e. refl;
+  hot = λ e. refl;
+  others = λ other apart. record { slot = refl; taken = refl; shown = refl };
 }
 
 -- a control packet is dropped, or does this

@@ -1,14 +1,13 @@
 -- What the controller sends: no removal of a latest slot but upon the answer to a store.
-use Rattle.std.proofs.Common.{cond, true≢false, inl, inr, ◌⊎◌, sym, ap, ◌∙◌, ◌≡◌, ℕ, zero, suc, ◌+◌, ◌-◌, ◌≤◌, ◌<◌, Bool, true, false, not, ◌&&◌, nat_eq, nat_le, nat_lt, List, [], ◌∷◌, ◌++◌, length, refl, subst, arith}
+use Rattle.std.proofs.Common.{cond, true≢false, inl, inr, ◌⊎◌, sym, ◌∙◌, ◌≡◌, ℕ, zero, suc, ◌+◌, ◌-◌, ◌≤◌, ◌<◌, Bool, true, false, not, ◌&&◌, nat_eq, nat_le, nat_lt, List, [], ◌∷◌, ◌++◌, length, refl, subst, arith}
 use Rattle.std.specs.Prelude.{slice_get, Option, None, Some, is_some, slice_index_or, slice_set}
 use Rattle.far_base.specs.declared.packet.Out.{Out}
 use Rattle.far_base.specs.declared.packet.Packet.{Packet}
 use Rattle.far_base.specs.declared.packet.Packet.TheVariants.{Hot, AdmitAck, PeekAns, Remove, RemoveAns, SnapBegun, SnapRead, SnapPart, Stored, Release, Ask, Told, TopAsk, TopIs, SnapStart, SnapSame, SnapFrom}
-use Rattle.far_base.specs.declared.party.Party.TheVariants.{Client, Switch, Server, Controller}
+use Rattle.far_base.specs.declared.party.Party.TheVariants.{Client, Switch, Server}
 use Rattle.far_base.specs.declared.plan.Config.{Config}
 use Rattle.far_base.specs.declared.record.Record.{Record}
 use Rattle.far_base.specs.declared.slot_state.Due.TheVariants.{Over, Peeked, Removed, Stored as StoredDue}
-use Rattle.far_model.specs.Clients.{tells, tells_each}
 use Rattle.far_model.specs.Controller.{ControllerState, to_clients, to_servers, store_of, first_want_dropped, admits_want, evicts, makes_room, tick, tick_room, tick_free, tick_want, tick_wants, evict_held, evict_key, acknowledged, evicts_on, peek_answered, removal_answered, start_snapshot, completes, job_turn, snapshot_begun, part_came, same_part, same_came, is_last_present, stores_of, snapshot_stores, start_recovery, store_outs, round_turn, told_round, client_told, round_stored, store_answered, top_told, controller_takes, wanted}
 use Rattle.far_model.specs.Evictions.{Eviction, after_store, is_due, removing, Send, Store as StoreNext, Kept, is_free, has_key, holds_key, is_admitting, first_place, state_at, victim, after_peek, after_removal, waits_for, waits_job, TRIES, shown_item, hand_after}
 use Rattle.far_model.specs.Members.{Among, Each}
@@ -209,7 +208,6 @@ module _ (config : Config) where
   takes_rules c (Told number caller total item) other = told_rules c number caller total item c.round
   takes_rules c (TopIs number server top) other = top_rules c number server top c.round
   takes_rules c _ other = idle_rules c
-
 
   -- ---- the answer to a store
 

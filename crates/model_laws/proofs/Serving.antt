@@ -1,7 +1,34 @@
 -- The first want is served.
 use Rattle.std.proofs.Common.{
-  ◌≡◌, ◌≢◌, ◌⊎◌, inl, inr, ℕ, zero, suc, ◌+◌, ◌-◌, ◌<◌, ◌≤◌, Bool, true, false, List, [], ◌∷◌, ◌++◌, length, take, drop,
-  refl, sym, ap, ◌∙◌, subst, arith, true≢false,
+  ◌≡◌,
+  ◌≢◌,
+  ◌⊎◌,
+  inl,
+  inr,
+  ℕ,
+  zero,
+  suc,
+  ◌+◌,
+  ◌-◌,
+  ◌<◌,
+  ◌≤◌,
+  Bool,
+  true,
+  false,
+  List,
+  [],
+  ◌∷◌,
+  ◌++◌,
+  length,
+  take,
+  drop,
+  refl,
+  sym,
+  ap,
+  ◌∙◌,
+  subst,
+  arith,
+  true≢false,
 }
 use Rattle.std.specs.Prelude.{Option, None, Some, if◌then◌else◌, is_some, nat_le, slice_get}
 use Rattle.std.proofs.lemmas.Bool.{cases_Bool, cases_lt}
@@ -12,7 +39,7 @@ use Rattle.far_base.specs.declared.slot_state.SlotState.{SlotState}
 use Rattle.far_model.specs.Controller.{ControllerState, admits_want, first_want_dropped, makes_room, tick, tick_free, tick_room, tick_want, tick_wants}
 use Rattle.far_model.specs.Evictions.{first_place, has_key, is_free, is_held, moved_on, or_from_front, victim}
 use Rattle.far_model.specs.Members.{Among}
-use Rattle.far_model.specs.Parties.{Turn, idle}
+use Rattle.far_model.specs.Parties.{idle}
 use Rattle.far_model.specs.View.{next_place}
 use Rattle.far_model.proofs.Members.{among_append, among_at, place_of}
 use Rattle.model_laws.specs.Ticks.{HasNoTick, HasWant, IsFirst, IsHindered, IsVictim, NonePasses, turn_from}
@@ -30,7 +57,10 @@ first_found test (x ∷ xs) zero h =
     rw passes refl
 first_found test (x ∷ xs) (suc i) h =
     let rest : first_place test xs ≡ Some i = first_found test xs i (record {
-      there = h.there; at = h.at; passes = h.passes; before = λ j y l a. h.before (suc j) y (omega arith) a;
+      there = h.there;
+      at = h.at;
+      passes = h.passes;
+      before = λ j y l a. h.before (suc j) y (omega arith) a;
     }) in
     let first : test x ≡ false = h.before 0 x (omega arith) refl in
     rw first (rw rest refl)

@@ -26,17 +26,17 @@ use Rattle.std.specs.Prelude.{◌≢◌, ◌==◌, if◌then◌else◌, Option, 
 use Rattle.std.proofs.lemmas.Bool.{MatchBool-at_true, MatchBool-at_false, cases_lt}
 use Rattle.std.proofs.lemmas.Option.{same_Some, none-some}
 use Rattle.far_base.specs.declared.log.LogEntry.{LogEntry}
-use Rattle.far_base.specs.declared.log.LogEntry.TheVariants.{Sent, Numbered, Emitted, Answered, Admitted, Evicted, Kept, Snapped, SnapItem, Stopped, Recovered, RecItem}
+use Rattle.far_base.specs.declared.log.LogEntry.TheVariants.{Sent}
 use Rattle.far_base.specs.declared.log.LogLine.{LogLine}
 use Rattle.far_base.specs.declared.log.Placed.{Placed}
 use Rattle.far_base.specs.declared.plan.OpLine.{OpLine}
 use Rattle.far_model.specs.History.{Before, IsHistory, IsPlace, IsReadPlace, IsWritePlace}
 use Rattle.far_model.specs.Log.{At, Answer, IsTakingMoment, answering, emission, exposed, first_told, is_read, numbering, or_later, sending, sent_by}
-use Rattle.far_model.specs.Members.{Among, Each, Pairs}
+use Rattle.far_model.specs.Members.{Among, Pairs}
 use Rattle.far_model.specs.State.{line_at}
 use Rattle.far_model.proofs.Members.{each_among, each_from_among}
 use Rattle.model_laws.proofs.Exposed.{exposed_most, exposed_shown, taking_moment}
-use Rattle.model_laws.proofs.Places.{before_or, before_strict, same_place}
+use Rattle.model_laws.proofs.Places.{before_or, same_place}
 
 same_op : (op other : ℕ) (line line' : OpLine) → Sent op line ≡ Sent other line' → op ≡ other
 same_op op other line line' e = cc

@@ -1,12 +1,20 @@
 -- What a pass changes: the slot that its packet concerns, the record that it sets or takes away, and the part that leaves.
-use Rattle.std.specs.Prelude.{
-  ◌≡◌, ◌≢◌, ℕ, ◌+◌, Bool, true, false, ◌&&◌, nat_eq, if◌then◌else◌, List, [], ◌∷◌, ◌++◌, Option, None, Some,
-}
+use Rattle.std.specs.Prelude.{◌≡◌, ◌≢◌, ℕ, ◌+◌, Bool, true, false, ◌&&◌, nat_eq, if◌then◌else◌, List, [], ◌∷◌, Option, None, Some}
 use Rattle.std.specs.List.{filter}
 use Rattle.far_base.specs.declared.packet.Out.{Out}
 use Rattle.far_base.specs.declared.packet.Packet.{Packet}
 use Rattle.far_base.specs.declared.packet.Packet.TheVariants.{
-  GetReq, WriteReq, GetRep, WriteRep, Admit, Remove, SnapStart, SnapRead, SnapPart, SnapSame, SnapFrom,
+  GetReq,
+  WriteReq,
+  GetRep,
+  WriteRep,
+  Admit,
+  Remove,
+  SnapStart,
+  SnapRead,
+  SnapPart,
+  SnapSame,
+  SnapFrom,
 }
 use Rattle.far_base.specs.declared.party.Party.TheVariants.{Controller}
 use Rattle.far_model.specs.Parties.{to_party}

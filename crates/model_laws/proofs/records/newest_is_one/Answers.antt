@@ -1,4 +1,4 @@
-use Rattle.std.proofs.Common.{◌≡◌, ℕ, ◌≤◌, List, sym, ◌∙◌, subst, arith}
+use Rattle.std.proofs.Common.{◌≡◌, ◌≤◌, List, sym, subst, arith}
 use Rattle.far_base.specs.declared.record.Record.{Record}
 use Rattle.far_model.specs.History.{Agree, IsKeyBefore, IsNewestPerKey}
 use Rattle.far_model.specs.Members.{Among}
