@@ -1,0 +1,16 @@
+pub mod Course
+pub mod Evictions
+pub mod EvictionsTraffic
+pub mod Example
+pub mod NamedStops
+pub mod Plain
+pub mod PlainTraffic
+pub mod Slots
+pub mod SlotsTraffic
+pub mod Snapshots
+pub mod SnapshotsTraffic
+pub mod Stops
+pub mod StopsTraffic
+pub mod Table
+pub mod Traffic
+pub mod Words

@@ -1,5 +1,0 @@
-use Rattle.std.proofs.Common.{refl}
-use Rattle.model_rows.proofs.stop_at_second_start.Goals as goal
-
-pub returns : goal.returns
-returns c = refl
