@@ -9,7 +9,7 @@ use Rattle.far_base.specs.declared.log.LogEntry.{LogEntry}
 use Rattle.far_base.specs.declared.log.LogEntry.TheVariants.{Emitted}
 use Rattle.far_model.specs.Members.{Among}
 use Rattle.model_laws.specs.Answers.{AnswersAreAtMost}
-use Rattle.far_model.specs.Log.{At, same_key, sent_on, is_on, sending, number_shown, greatest_shown, exposed, IsTakingMoment}
+use Rattle.far_model.specs.Log.{At, same_key, sent_on, is_on, sending, exposed, IsTakingMoment, number_exposed, greatest_exposed}
 
 pub same_key_true : (a b : List ℕ) → same_key a b ≡ true → a ≡ b
 same_key_true a b h = (bytes_decides a b).0 h
@@ -40,22 +40,22 @@ on_sent log op s h = rw h (same_key_refl s.what.key)
 
 -- what one line adds
 abbrev part : (ℕ → Bool) → ℕ → LogLine → ℕ
-part on moment l = if nat_le l.moment moment then number_shown on l.entry else 0
+part on moment l = if nat_le l.moment moment then number_exposed on l.entry else 0
 
-part_shown : (on : ℕ → Bool) (moment : ℕ) (l : LogLine) → l.moment ≤ moment → number_shown on l.entry ≤ part on moment l
+part_shown : (on : ℕ → Bool) (moment : ℕ) (l : LogLine) → l.moment ≤ moment → number_exposed on l.entry ≤ part on moment l
 part_shown on moment l h = rw (le-leb l.moment moment h) (omega arith)
 
-shown_within : (on : ℕ → Bool) (moment : ℕ) (log : List LogLine) (l : LogLine) → Among l log → l.moment ≤ moment → number_shown on l.entry ≤ greatest_shown on moment log
+shown_within : (on : ℕ → Bool) (moment : ℕ) (log : List LogLine) (l : LogLine) → Among l log → l.moment ≤ moment → number_exposed on l.entry ≤ greatest_exposed on moment log
 shown_within on moment [] l h b = absurd h
-shown_within on moment (m ∷ ms) l (inl e) b = le_trans (subst (λ w. number_shown on l.entry ≤ part on moment w) e (part_shown on moment l b)) (le-max_left (part on moment m) (greatest_shown on moment ms))
-shown_within on moment (m ∷ ms) l (inr h) b = le_trans (shown_within on moment ms l h b) (le-max_right (part on moment m) (greatest_shown on moment ms))
+shown_within on moment (m ∷ ms) l (inl e) b = le_trans (subst (λ w. number_exposed on l.entry ≤ part on moment w) e (part_shown on moment l b)) (le-max_left (part on moment m) (greatest_exposed on moment ms))
+shown_within on moment (m ∷ ms) l (inr h) b = le_trans (shown_within on moment ms l h b) (le-max_right (part on moment m) (greatest_exposed on moment ms))
 
 -- a member that shows exactly this
 record Peak (on : ℕ → Bool) (moment num : ℕ) (log : List LogLine) : Type 0 where
   line : LogLine
   among : Among line log
   before : line.moment ≤ moment
-  shown : number_shown on line.entry ≡ num
+  shown : number_exposed on line.entry ≡ num
 
 max_cases : (a b : ℕ) → (max a b ≡ a) ⊎ (max a b ≡ b)
 max_cases a b = go (leb_tells a b)
@@ -64,16 +64,16 @@ max_cases a b = go (leb_tells a b)
     go (inl p) = inr (omega (arith, p.1))
     go (inr p) = inl (omega (arith, p.1))
 
-peak : (on : ℕ → Bool) (moment : ℕ) (log : List LogLine) → 0 < greatest_shown on moment log → Peak on moment (greatest_shown on moment log) log
+peak : (on : ℕ → Bool) (moment : ℕ) (log : List LogLine) → 0 < greatest_exposed on moment log → Peak on moment (greatest_exposed on moment log) log
 peak on moment [] h = absurd (omega arith)
-peak on moment (m ∷ ms) h = go (peak on moment ms) (max_cases (part on moment m) (greatest_shown on moment ms))
+peak on moment (m ∷ ms) h = go (peak on moment ms) (max_cases (part on moment m) (greatest_exposed on moment ms))
   where
-    here : (b : Bool) → nat_le m.moment moment ≡ b → 0 < (if b then number_shown on m.entry else 0) → (m.moment ≤ moment) × (number_shown on m.entry ≡ (if b then number_shown on m.entry else 0))
+    here : (b : Bool) → nat_le m.moment moment ≡ b → 0 < (if b then number_exposed on m.entry else 0) → (m.moment ≤ moment) × (number_exposed on m.entry ≡ (if b then number_exposed on m.entry else 0))
     here true e k = (leb-true m.moment moment e, refl)
     here false e k = absurd (omega arith)
 
-    go : (0 < greatest_shown on moment ms → Peak on moment (greatest_shown on moment ms) ms) → (max (part on moment m) (greatest_shown on moment ms) ≡ part on moment m) ⊎ (max (part on moment m) (greatest_shown on moment ms) ≡ greatest_shown on moment ms)
-        → Peak on moment (greatest_shown on moment (m ∷ ms)) (m ∷ ms)
+    go : (0 < greatest_exposed on moment ms → Peak on moment (greatest_exposed on moment ms) ms) → (max (part on moment m) (greatest_exposed on moment ms) ≡ part on moment m) ⊎ (max (part on moment m) (greatest_exposed on moment ms) ≡ greatest_exposed on moment ms)
+        → Peak on moment (greatest_exposed on moment (m ∷ ms)) (m ∷ ms)
     go f (inl e) =
         let k = here (nat_le m.moment moment) refl (subst (λ n. 0 < n) e h) in
         record { line = m; among = inl refl; before = k.0; shown = k.1 ∙ sym e }
@@ -81,7 +81,7 @@ peak on moment (m ∷ ms) h = go (peak on moment ms) (max_cases (part on moment 
         let p = f (subst (λ n. 0 < n) e h) in
         record { line = p.line; among = inr p.among; before = p.before; shown = p.shown ∙ sym e }
 
-shows_by : (log : List LogLine) (key : List ℕ) (moment num : ℕ) → 0 < num → (at : ℕ) (e : LogEntry) → Among (record { moment = at; entry = e }) log → at ≤ moment → number_shown (is_on log key) e ≡ num → Shows log key moment num
+shows_by : (log : List LogLine) (key : List ℕ) (moment num : ℕ) → 0 < num → (at : ℕ) (e : LogEntry) → Among (record { moment = at; entry = e }) log → at ≤ moment → number_exposed (is_on log key) e ≡ num → Shows log key moment num
 shows_by log key moment num p at (Emitted op n body near) a b s = go (is_on log key op) refl s
   where
     go : (on : Bool) → is_on log key op ≡ on → (if on then n else 0) ≡ num → Shows log key moment num
@@ -96,8 +96,8 @@ exposed_shown log key moment h = let p = peak (is_on log key) moment log h in sh
 -- and no line shows more
 pub exposed_most : (log : List LogLine) (key : List ℕ) (moment num : ℕ) → Shows log key moment num → num ≤ exposed log key moment
 exposed_most log key moment num s =
-    let k : number_shown (is_on log key) (Emitted s.op num s.body s.near) ≤ exposed log key moment = shown_within (is_on log key) moment log (record { moment = s.shown_at; entry = Emitted s.op num s.body s.near }) s.emitted s.before in
-    let f : number_shown (is_on log key) (Emitted s.op num s.body s.near) ≡ num = rw s.on_key refl in
+    let k : number_exposed (is_on log key) (Emitted s.op num s.body s.near) ≤ exposed log key moment = shown_within (is_on log key) moment log (record { moment = s.shown_at; entry = Emitted s.op num s.body s.near }) s.emitted s.before in
+    let f : number_exposed (is_on log key) (Emitted s.op num s.body s.near) ≡ num = rw s.on_key refl in
     omega (arith, k, f)
 
 -- it never falls

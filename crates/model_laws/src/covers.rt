@@ -1,9 +1,9 @@
 //! What covers a number of a key covers each smaller one.
 
+ghost use Rattle.far_invariants.specs.Covers.{IsAtServer, Covers, IsInSlot, IsInSnapshot, IsPreserved, IsKeptInFlight};
 ghost use Rattle.std.specs.Prelude.{ℕ, ◌≤◌, List};
 ghost use Rattle.far_base.specs.PlanView.{PlanView};
 ghost use Rattle.far_base.specs.declared.record.Record.{Record};
-ghost use Rattle.far_model.specs.Kept.{Covers, IsAtServer, IsInSlot, IsInSnapshot, IsKeptInFlight, IsPreserved};
 ghost use Rattle.far_model.specs.State.{State};
 ghost use Rattle.model_laws.specs.Below.{HoldsBelow};
 
