@@ -3,3 +3,4 @@ pub mod Counts
 pub mod Drops
 pub mod Adds
 pub mod Places
+pub mod Unique

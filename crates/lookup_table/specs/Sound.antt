@@ -2,7 +2,7 @@
 use Rattle.std.specs.Prelude.{◌≡◌, ℕ, ◌+◌, ◌*◌, ◌/◌, ◌^◌, ◌<◌, Bool, false, eqb, is_some, List, length, slice_index_or, slice_get, count_by, Option, None, Some, IsSome}
 use Rattle.lookup_table.specs.declared.place.Place.{Place}
 use Rattle.lookup_table.specs.declared.place.Place.TheVariants.{Cell, Overflow}
-use Rattle.lookup_table.specs.Table.{LookupView, bucket_count, bucket_in, key_at}
+use Rattle.lookup_table.specs.Table.{LookupView, bucket_count, bucket_in, key_at, place_of}
 
 abbrev pub is_slot : ℕ → Option ℕ → Bool
 is_slot slot None = false
@@ -59,3 +59,14 @@ Nowhere key bound = (slot : ℕ) → key_at bound slot ≡ Some key → ⊥
 -- no other slot has the key
 abbrev pub IsAlone : List ℕ → ℕ → List (Option (List ℕ)) → Type 0
 IsAlone key slot bound = (other : ℕ) → key_at bound other ≡ Some key → other ≡ slot
+
+-- no other key has its pair at this place
+abbrev pub IsOwn : List ℕ → Option Place → LookupView → Type 0
+IsOwn key None t = Unit {0}
+IsOwn key (Some place) t = (other : List ℕ) → place_of other t ≡ Some place → other ≡ key
+
+-- each earlier place of the overflow list is that of a key
+abbrev pub IsPacked : Option Place → LookupView → Type 0
+IsPacked None t = Unit {0}
+IsPacked (Some (Cell bucket cell)) t = Unit {0}
+IsPacked (Some (Overflow at)) t = (i : ℕ) → i < at → (other : List ℕ) × (place_of other t ≡ Some (Overflow i))

@@ -7,3 +7,6 @@ mod place;
 
 pub use lookup::Lookup;
 pub use place::{BUCKET_CELLS, Place};
+
+#[cfg(test)]
+mod tests;

@@ -32,7 +32,7 @@ ghost use Rattle.std.specs.Prelude.{◌≡◌, ◌+◌, ◌*◌, ◌^◌, ◌<�
 ghost use Rattle.far_model.specs.View.{bound_place, bind_key, unbound};
 ghost use Rattle.lookup_table.specs.declared.place.Place.TheVariants.{Cell, Overflow};
 ghost use Rattle.lookup_table.specs.Binding.{with_binding, without_key, without_slot, with_pair, dropped_at};
-ghost use Rattle.lookup_table.specs.Sound.{IsSound, IsPairAt, IsAlone, HasPair, Nowhere, held_at};
+ghost use Rattle.lookup_table.specs.Sound.{IsSound, IsPairAt, IsAlone, IsOwn, IsPacked, HasPair, Nowhere, held_at};
 ghost use Rattle.lookup_table.specs.Table.{no_pairs, bucket_in, bucket_count, place_of};
 
 fn filled<T: Copy>(alloc: Global, item: T, count: usize) -> Result<Vec<T>, AllocError>
@@ -96,12 +96,14 @@ impl Lookup {
     }
 
     /// Where the pair with the key stands. `None` exactly where no slot is bound to the key. A cell is one of the four of
-    /// the key's bucket, and the overflow list serves a full bucket. One bucket is looked at, and the overflow list where
-    /// the key is not in it.
+    /// the key's bucket; the overflow list serves a full bucket, and its places are without a gap. No two keys have one
+    /// place. One bucket is looked at, and the overflow list where the key is not in it.
     pub fn place(&self, key: &Key) -> Option<Place>
         ensures place { result ≡ place_of key.now self.now }
         ensures pair { IfSome result (λ place. IsPairAt key.now place self.now) }
         ensures none { IsNone result → Nowhere key.now self.now.bound }
+        ensures own { IsOwn key.now result self.now }
+        ensures packed { IsPacked result self.now }
         ensures held { IfSome result (λ place. held_at place self.now ≡ bound_place key.now self.now.bound) }
         ensures sound { IsSound self.now }
     {
