@@ -6,4 +6,3 @@ mod slot;
 
 pub use mark::Mark;
 pub use slot::Slot;
-

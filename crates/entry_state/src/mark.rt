@@ -19,6 +19,7 @@ impl Model for Mark {
 }
 
 ghost use Rattle.std.specs.Prelude.{◌≡◌};
+ghost use Rattle.far_model.specs.View.{same_mark};
 
 impl Mark {
     /// The mark of the records of this key and number.
@@ -26,5 +27,16 @@ impl Mark {
         ensures { result ≡ record { key = key; num = num } }
     {
         Mark { key, num }
+    }
+
+    /// Whether both are of one key and number, or neither is there.
+    pub fn same(one: &Option<Self>, other: &Option<Self>) -> bool
+        ensures { result ≡ same_mark one.now other.now }
+    {
+        match (one, other) {
+            (None, None) => true,
+            (Some(one), Some(other)) => one.key == other.key && one.num == other.num,
+            _ => false,
+        }
     }
 }

@@ -4,3 +4,6 @@
 mod cells;
 
 pub use cells::{HOT_CELLS, HotCells};
+
+#[cfg(test)]
+mod tests;

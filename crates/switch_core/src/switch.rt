@@ -1,4 +1,4 @@
-ghost use Rattle.std.specs.Prelude.{◌≡◌, ◌+◌, ◌<◌, ◌^◌, OnOk, OnErr};
+ghost use Rattle.std.specs.Prelude.{◌≡◌, ◌+◌, ◌<◌, ◌^◌, None, Some, OnOk, OnErr};
 ghost use Rattle.far_base.specs.Limits.{IsConfig};
 ghost use Rattle.far_model.specs.Pass as model;
 ghost use Rattle.far_model.specs.View.{SwitchView, opening_view};
@@ -10,6 +10,28 @@ use far_base::{Config, Memory, Out, Packet};
 pub struct Emit {
     pub first: Option<Out>,
     pub second: Option<Out>,
+}
+
+impl Emit {
+    /// Nothing leaves.
+    pub fn none() -> Self
+        ensures { result ≡ record { first = None; second = None } }
+    {
+        Emit {
+            first: None,
+            second: None,
+        }
+    }
+
+    /// One packet leaves.
+    pub fn one(out: Out) -> Self
+        ensures { result ≡ record { first = Some out; second = None } }
+    {
+        Emit {
+            first: Some(out),
+            second: None,
+        }
+    }
 }
 
 /// A switch with a cache. Contracts see its view.

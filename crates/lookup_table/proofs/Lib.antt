@@ -1,0 +1,6 @@
+pub mod Bound
+pub mod Counts
+pub mod Drops
+pub mod Adds
+pub mod Places
+pub mod Unique
