@@ -9,6 +9,9 @@ fn write(client: &mut Client, text: &[u8], num: u64) -> Result<(), Fail> {
         key: Key::from_text(text).ok_or("no key")?,
         body: Body::absent(),
     };
+    if !client.is_idle() {
+        return Err("not idle")?;
+    }
     client.send(1, &line).map_err(|_| "no memory")?;
     client.answered(&Packet::WriteAns {
         caller: 3,
@@ -35,6 +38,9 @@ fn a_key_that_comes_again_goes_last(rt: HostRuntime) -> Result<(), Fail> {
         nums.push(record.num)?;
     }
     assert!(rt; nums.as_slice() == [7, 6, 8].as_slice());
+    if client.preserved().len() != 3 {
+        return Err("not three records")?;
+    }
     let Packet::Told {
         caller: 3,
         total: 3,
