@@ -1,19 +1,18 @@
 -- The rules of the controller.
-use Rattle.std.specs.Prelude.{◌≡◌, ℕ, zero, suc, ◌+◌, ◌-◌, Bool, true, false, ◌&&◌, not, nat_eq, nat_le, nat_lt, if◌then◌else◌, List, [], ◌∷◌, ◌++◌, length, map, replicate, slice_get, slice_index_or, slice_set, is_some, drop, Option, None, Some}
-use Rattle.far_base.specs.declared.log.LogEntry.{LogEntry}
+use Rattle.std.specs.Prelude.{ℕ, zero, suc, ◌+◌, ◌-◌, Bool, true, false, ◌&&◌, not, nat_eq, nat_le, nat_lt, if◌then◌else◌, List, [], ◌∷◌, ◌++◌, length, replicate, slice_get, slice_index_or, slice_set, is_some, drop, Option, None, Some}
 use Rattle.far_base.specs.declared.log.LogEntry.TheVariants.{Admitted, Evicted, Kept as KeptNote, Snapped}
 use Rattle.far_base.specs.declared.packet.Out.{Out}
 use Rattle.far_base.specs.declared.packet.Packet.{Packet}
-use Rattle.far_base.specs.declared.packet.Packet.TheVariants.{GetReq, WriteReq, GetFwd, WriteFwd, GetRep, WriteRep, GetAns, WriteAns, Hot, Admit, AdmitAck, Peek, PeekAns, Remove, RemoveAns, SnapStart, SnapBegun, SnapRead, SnapPart, Store, Stored, Release, Ask, Told, TopAsk, TopIs, SnapSame, SnapFrom}
-use Rattle.far_base.specs.declared.party.Party.TheVariants.{Client, Switch, Server, Controller}
+use Rattle.far_base.specs.declared.packet.Packet.TheVariants.{Hot, Admit, AdmitAck, PeekAns, RemoveAns, SnapStart, SnapBegun, SnapPart, Store, Stored, Release, Ask, Told, TopAsk, TopIs, SnapSame, SnapFrom}
+use Rattle.far_base.specs.declared.party.Party.TheVariants.{Client, Switch, Server}
 use Rattle.far_base.specs.declared.plan.Config.{Config}
 use Rattle.far_base.specs.declared.record.Record.{Record}
 use Rattle.far_base.specs.declared.slot_state.SlotState.{SlotState}
 use Rattle.far_base.specs.declared.slot_state.SlotState.TheVariants.{Free, Admitting, Held, Evicting}
-use Rattle.far_base.specs.declared.slot_state.Due.TheVariants.{Peeked, Stored as StoredDue, Removed}
-use Rattle.far_model.specs.Evictions.{Eviction, Next, Send, Store as StoreNext, Done, Kept, is_free, is_held, has_key, holds_key, is_admitting, first_place, state_at, key_in, tag_in, victim, hand_after, begins_eviction, peek_of, after_peek, after_store, after_removal, waits_for, waits_job, storing, removing}
+use Rattle.far_base.specs.declared.slot_state.Due.TheVariants.{Peeked, Removed}
+use Rattle.far_model.specs.Evictions.{Eviction, Next, Send, Store as StoreNext, Done, Kept, is_free, has_key, holds_key, is_admitting, first_place, state_at, key_in, tag_in, victim, hand_after, begins_eviction, peek_of, after_peek, after_store, after_removal, waits_for, waits_job, storing, removing}
 use Rattle.far_model.specs.Parties.{Turn, idle, to_party}
-use Rattle.far_model.specs.Rounds.{Round, Telling, new_round, has_told, tells_one, telling_at, asks_tops, ready_counter}
+use Rattle.far_model.specs.Rounds.{Round, new_round, has_told, tells_one, telling_at, asks_tops, ready_counter}
 use Rattle.far_model.specs.Snapshots.{Job, SnapshotView, no_snapshot, new_job, has_part, has_begun, is_whole, completed, part_reads, view_items, view_records, with_part, with_same}
 use Rattle.far_model.specs.View.{server_of}
 
@@ -82,11 +81,13 @@ admits_want c key i = record {
 
 -- the slot is to be freed
 abbrev pub evicts : ControllerState → Bool → ℕ → Turn ControllerState
-evicts c for_want i = let e = begins_eviction c.epoch i (key_in (state_at c.slots i)) (tag_in (state_at c.slots i)) for_want in record {
-  state = record (with_state c i (Evicting e.key e.tag)) { eviction = Some e };
-  out = to_party Switch (peek_of e) ∷ [];
-  notes = [];
-}
+evicts c for_want i =
+    let state = state_at c.slots i in
+    let e = begins_eviction c.epoch i (key_in state) (tag_in state) for_want in record {
+      state = record (with_state c i (Evicting e.key e.tag)) { eviction = Some e };
+      out = to_party Switch (peek_of e) ∷ [];
+      notes = [];
+    }
 
 -- the victim makes room for the first want
 abbrev pub makes_room : ControllerState → ℕ → Turn ControllerState
@@ -129,7 +130,11 @@ acked_state s = Held (key_in s) (tag_in s)
 -- an admitting slot with that tag is held
 abbrev pub acknowledged : ControllerState → ℕ → ℕ → Turn ControllerState
 acknowledged c i tag = if is_admitting tag (state_at c.slots i)
-    then record { state = with_state c i (acked_state (state_at c.slots i)); out = []; notes = Admitted i (key_in (state_at c.slots i)) tag ∷ [] }
+    then record {
+      state = with_state c i (acked_state (state_at c.slots i));
+      out = [];
+      notes = Admitted i (key_in (state_at c.slots i)) tag ∷ [];
+    }
     else idle c
 
 -- ---- evictions
@@ -138,18 +143,38 @@ abbrev pub drop_want_if : Bool → ControllerState → ControllerState
 drop_want_if for_want c = if for_want then first_want_dropped c else c
 
 abbrev pub evicts_on : Config → ControllerState → Eviction → Next → Turn ControllerState
-evicts_on config c e (Send packet) = record { state = record c { eviction = Some (removing e) }; out = to_party Switch packet ∷ []; notes = [] }
-evicts_on config c e (StoreNext item) = record { state = record c { eviction = Some (storing c.next_job item e); next_job = c.next_job + 1 }; out = store_of config c.next_job item ∷ []; notes = [] }
-evicts_on config c e (Done tries) = record { state = record (with_state c e.slot Free) { eviction = None }; out = []; notes = Evicted e.slot e.key tries ∷ [] }
-evicts_on config c e (Kept tries last) = record { state = drop_want_if e.for_want (record (with_state c e.slot (Held e.key e.tag)) { eviction = None }); out = []; notes = KeptNote e.slot e.key last.num ∷ [] }
+evicts_on config c e (Send packet) = record {
+  state = record c { eviction = Some (removing e) };
+  out = to_party Switch packet ∷ [];
+  notes = [];
+}
+evicts_on config c e (StoreNext item) = record {
+  state = record c { eviction = Some (storing c.next_job item e); next_job = c.next_job + 1 };
+  out = store_of config c.next_job item ∷ [];
+  notes = [];
+}
+evicts_on config c e (Done tries) = record {
+  state = record (with_state c e.slot Free) { eviction = None };
+  out = [];
+  notes = Evicted e.slot e.key tries ∷ [];
+}
+evicts_on config c e (Kept tries last) = record {
+  state = drop_want_if e.for_want (record (with_state c e.slot (Held e.key e.tag)) { eviction = None });
+  out = [];
+  notes = KeptNote e.slot e.key last.num ∷ [];
+}
 
-abbrev pub peek_answered : Config → ControllerState → ℕ → ℕ → Bool → ℕ → Option (List ℕ) → Option Eviction → Turn ControllerState
+abbrev pub peek_answered : Config → ControllerState → ℕ → ℕ → Bool → ℕ → Option (List ℕ) → Option Eviction
+    → Turn ControllerState
 peek_answered config c i tag latest num body None = idle c
-peek_answered config c i tag latest num body (Some e) = if waits_for Peeked i tag e then evicts_on config c e (after_peek e latest num body) else idle c
+peek_answered config c i tag latest num body (Some e) = if waits_for Peeked i tag e
+    then evicts_on config c e (after_peek e latest num body) else idle c
 
-abbrev pub removal_answered : Config → ControllerState → ℕ → ℕ → Bool → ℕ → Option (List ℕ) → Option Eviction → Turn ControllerState
+abbrev pub removal_answered : Config → ControllerState → ℕ → ℕ → Bool → ℕ → Option (List ℕ) → Option Eviction
+    → Turn ControllerState
 removal_answered config c i tag done num body None = idle c
-removal_answered config c i tag done num body (Some e) = if waits_for Removed i tag e then evicts_on config c e (after_removal e done num body) else idle c
+removal_answered config c i tag done num body (Some e) = if waits_for Removed i tag e
+    then evicts_on config c e (after_removal e done num body) else idle c
 
 -- ---- snapshots
 
@@ -178,7 +203,8 @@ completes config c s sames = record {
 }
 
 abbrev pub job_turn : Config → ControllerState → Job → List Out → Turn ControllerState
-job_turn config c job out = if is_whole job then completes config c (completed job) job.sames else record { state = record c { job = Some job }; out = out; notes = [] }
+job_turn config c job out = if is_whole job then completes config c (completed job) job.sames
+    else record { state = record c { job = Some job }; out = out; notes = [] }
 
 abbrev pub snapshot_begun : Config → ControllerState → ℕ → ℕ → Option Job → Turn ControllerState
 snapshot_begun config c id point None = idle c
@@ -242,17 +268,26 @@ store_outs config job (Some item) = store_of config job item ∷ []
 -- the tops are asked once all is told and stored
 abbrev pub round_turn : Config → ControllerState → Round → List Out → Turn ControllerState
 round_turn config c r out = if asks_tops r
-    then record { state = record c { round = Some (record r { asked = true }) }; out = out ++ to_servers 0 config.servers (TopAsk r.number); notes = [] }
+    then record {
+      state = record c { round = Some (record r { asked = true }) };
+      out = out ++ to_servers 0 config.servers (TopAsk r.number);
+      notes = [];
+    }
     else record { state = record c { round = Some r }; out = out; notes = [] }
 
 abbrev pub told_round : Round → ℕ → ℕ → ℕ → Round
-told_round r caller total stores = record r { told = slice_set r.told caller (tells_one total (telling_at r caller)); stores = r.stores + stores }
+told_round r caller total stores = record r {
+  told = slice_set r.told caller (tells_one total (telling_at r caller));
+  stores = r.stores + stores;
+}
 
 abbrev pub client_told : Config → ControllerState → ℕ → ℕ → ℕ → Option Record → Option Round → Turn ControllerState
 client_told config c number caller total item None = idle c
-client_told config c number caller total item (Some r) = if nat_eq r.number number && (nat_lt caller (length r.told) && not (has_told (telling_at r caller)))
+client_told config c number caller total item (Some r) = if nat_eq r.number number
+    && (nat_lt caller (length r.told) && not (has_told (telling_at r caller)))
     then (let new = length (store_outs config c.next_job item) in
-    round_turn config (record c { next_job = c.next_job + new }) (told_round r caller total new) (store_outs config c.next_job item))
+    let outs = store_outs config c.next_job item in
+    round_turn config (record c { next_job = c.next_job + new }) (told_round r caller total new) outs)
     else idle c
 
 abbrev pub round_stored : Config → ControllerState → ℕ → Option Round → Turn ControllerState
@@ -268,13 +303,22 @@ is_evicting_job job (Some e) = waits_job job e
 abbrev pub store_answered : Config → ControllerState → ℕ → Option Eviction → Turn ControllerState
 store_answered config c job None = round_stored config c job c.round
 store_answered config c job (Some e) = if waits_job job e
-    then record { state = record c { eviction = Some (removing e) }; out = to_party Switch (after_store e) ∷ []; notes = [] }
+    then record {
+      state = record c { eviction = Some (removing e) };
+      out = to_party Switch (after_store e) ∷ [];
+      notes = [];
+    }
     else round_stored config c job c.round
 
 abbrev pub top_told : Config → ControllerState → ℕ → ℕ → ℕ → Option Round → Turn ControllerState
 top_told config c number server top None = idle c
-top_told config c number server top (Some r) = if nat_eq r.number number && (r.asked && (nat_lt server (length r.tops) && not (is_some (slice_index_or r.tops server None))))
-    then record { state = record c { round = Some (record r { tops = slice_set r.tops server (Some top) }) }; out = []; notes = [] }
+top_told config c number server top (Some r) = if nat_eq r.number number
+    && (r.asked && (nat_lt server (length r.tops) && not (is_some (slice_index_or r.tops server None))))
+    then record {
+      state = record c { round = Some (record r { tops = slice_set r.tops server (Some top) }) };
+      out = [];
+      notes = [];
+    }
     else idle c
 
 abbrev pub ready_in : Option Round → Option ℕ
@@ -295,7 +339,8 @@ abbrev pub controller_takes : Config → ControllerState → Packet → Turn Con
 controller_takes config c (Hot key) = idle (wanted key c)
 controller_takes config c (AdmitAck i tag) = acknowledged c i tag
 controller_takes config c (PeekAns i tag latest num body) = peek_answered config c i tag latest num body c.eviction
-controller_takes config c (RemoveAns i tag done latest num body) = removal_answered config c i tag done num body c.eviction
+controller_takes config c (RemoveAns i tag done latest num body) =
+    removal_answered config c i tag done num body c.eviction
 controller_takes config c (SnapBegun id point) = snapshot_begun config c id point c.job
 controller_takes config c (SnapPart id i view) = part_came config c id i view c.job
 controller_takes config c (SnapSame id i) = same_came config c id i c.job

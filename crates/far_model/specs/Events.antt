@@ -1,5 +1,5 @@
 -- The events: when each can happen, and what it does.
-use Rattle.std.specs.Prelude.{◌≡◌, ℕ, zero, suc, ◌+◌, Bool, true, false, ◌&&◌, ◌||◌, not, nat_eq, nat_le, nat_lt, if◌then◌else◌, List, [], ◌∷◌, ◌++◌, length, map, remove, slice_get, slice_set, is_some, Option, None, Some}
+use Rattle.std.specs.Prelude.{ℕ, suc, ◌+◌, Bool, true, false, ◌&&◌, ◌||◌, not, nat_eq, nat_le, if◌then◌else◌, List, [], ◌∷◌, ◌++◌, length, map, remove, slice_get, slice_set, is_some, Option, None, Some}
 use Rattle.std.specs.List.{list_any}
 use Rattle.far_base.specs.PlanView.{PlanView}
 use Rattle.far_base.specs.Limits.{due_number}
@@ -9,7 +9,7 @@ use Rattle.far_base.specs.declared.log.LogEntry.{LogEntry}
 use Rattle.far_base.specs.declared.log.LogEntry.TheVariants.{Sent, Stopped, Recovered, RecItem}
 use Rattle.far_base.specs.declared.packet.Message.{Message}
 use Rattle.far_base.specs.declared.packet.Packet.{Packet}
-use Rattle.far_base.specs.declared.packet.Packet.TheVariants.{GetReq, WriteReq, GetFwd, WriteFwd, GetRep, WriteRep, GetAns, WriteAns, Hot, Admit, AdmitAck, Peek, PeekAns, Remove, RemoveAns, SnapStart, SnapBegun, SnapRead, SnapPart, Store, Stored, Release, Ask, Told, TopAsk, TopIs}
+use Rattle.far_base.specs.declared.packet.Packet.TheVariants.{Stored, TopIs}
 use Rattle.far_base.specs.declared.party.Party.{Party}
 use Rattle.far_base.specs.declared.party.Party.TheVariants.{Client, Switch, Server, Controller}
 use Rattle.far_base.specs.declared.plan.OpLine.{OpLine}
@@ -19,11 +19,12 @@ use Rattle.far_base.specs.declared.record.Record.{Record}
 use Rattle.far_model.specs.Clients.{ClientState, line_of, request, client_takes}
 use Rattle.far_model.specs.Controller.{ControllerState, wanted, tick, evict_key, start_snapshot, start_recovery, ready, restarted, controller_takes}
 use Rattle.far_model.specs.KeyedRecords.{by_key}
+use Rattle.far_model.specs.Members.{is_empty}
 use Rattle.far_model.specs.Parties.{Turn, idle, to_party, messages_from}
 use Rattle.far_model.specs.Pass.{Passed, pass, passed_out, pass_notes}
 use Rattle.far_model.specs.Passes.{pass_count, with_pass}
 use Rattle.far_model.specs.Servers.{server_keeps, server_reply}
-use Rattle.far_model.specs.State.{State, client_at, records_at, noted, stepped}
+use Rattle.far_model.specs.State.{State, client_at, records_at, stepped}
 use Rattle.far_model.specs.View.{opening_view}
 
 -- what the servers' keepers answer in one step: the reply to a packet, and at a restart all their records by key.
@@ -35,13 +36,18 @@ pub record Keeping : Type 0 where
 -- ---- what each event does
 
 abbrev pub client_turn : State → ℕ → List Message → Turn ClientState → State
-client_turn s c rest t = record (stepped s (rest ++ messages_from (Client c) t.out) t.notes) { clients = slice_set s.clients c t.state }
+client_turn s c rest t = record (stepped s (rest ++ messages_from (Client c) t.out) t.notes) {
+  clients = slice_set s.clients c t.state;
+}
 
 abbrev pub controller_turn : State → List Message → Turn ControllerState → State
 controller_turn s rest t = record (stepped s (rest ++ messages_from Controller t.out) t.notes) { controller = t.state }
 
 abbrev pub switch_turn : State → List Message → Packet → Passed → State
-switch_turn s rest packet p = record (stepped s (rest ++ messages_from Switch (passed_out p)) (pass_notes packet p)) { switch = p.view; passes = with_pass s.passes packet }
+switch_turn s rest packet p = record (stepped s (rest ++ messages_from Switch (passed_out p)) (pass_notes packet p)) {
+  switch = p.view;
+  passes = with_pass s.passes packet;
+}
 
 -- replies to the switch's forwards go to the switch, and those to the controller's packets to the controller
 abbrev pub reply_goes_to : Packet → Party
@@ -54,7 +60,9 @@ reply_message server None = []
 reply_message server (Some packet) = record { from = Server server; to = reply_goes_to packet; packet = packet } ∷ []
 
 abbrev pub server_turn : State → ℕ → List Message → Packet → Option Packet → State
-server_turn s server rest packet reply = record (stepped s (rest ++ reply_message server reply) []) { servers = slice_set s.servers server (server_keeps (records_at s server) packet) }
+server_turn s server rest packet reply = record (stepped s (rest ++ reply_message server reply) []) {
+  servers = slice_set s.servers server (server_keeps (records_at s server) packet);
+}
 
 -- the rest of the bag, the addressee, the packet
 abbrev pub handled : PlanView → Keeping → State → List Message → Party → Packet → State
@@ -92,11 +100,12 @@ recovery_items records = map (λ (r : Record). RecItem r) records
 -- the switch runs again, empty, under the new epoch and counter
 abbrev pub restarts : PlanView → Keeping → State → Option ℕ → State
 restarts plan k s None = s
-restarts plan k s (Some counter) = record (stepped s s.bag (Recovered counter (length k.records) ∷ recovery_items k.records)) {
-  switch = opening_view plan.config (s.controller.epoch + 1) counter;
-  running = true;
-  controller = restarted s.controller;
-}
+restarts plan k s (Some counter) =
+    record (stepped s s.bag (Recovered counter (length k.records) ∷ recovery_items k.records)) {
+      switch = opening_view plan.config (s.controller.epoch + 1) counter;
+      running = true;
+      controller = restarted s.controller;
+    }
 
 -- the switch loses its memory
 abbrev pub stops : PlanView → State → State
@@ -168,11 +177,13 @@ can_deliver running m = running || not (is_switch m.to)
 
 -- the switch is stopped, no round is under way, and nothing that the switch sent is on its way
 abbrev pub can_recover : State → Bool
-can_recover s = not s.running && (not (is_some s.controller.round) && not (list_any (λ (m : Message). is_switch m.from) s.bag))
+can_recover s = not s.running
+    && (not (is_some s.controller.round) && not (list_any (λ (m : Message). is_switch m.from) s.bag))
 
 abbrev pub is_possible : State → Order → Bool
 is_possible s (AdmitOrder step key) = not (is_some s.controller.round)
-is_possible s (EvictOrder step key) = s.running && (not (is_some s.controller.eviction) && not (is_some s.controller.round))
+is_possible s (EvictOrder step key) = s.running
+    && (not (is_some s.controller.eviction) && not (is_some s.controller.round))
 is_possible s (SnapOrder step) = s.running && (not (is_some s.controller.job) && not (is_some s.controller.round))
 is_possible s (StopOrder step) = s.running
 is_possible s (StopAtOrder kind times) = s.running
@@ -189,27 +200,28 @@ counted_for s (StopAtOrder kind times) = pass_count s.passes kind
 
 abbrev pub send_choices : ℕ → List ClientState → List Event
 send_choices c [] = []
-send_choices c (client ∷ clients) = if can_send client then Send c ∷ send_choices (suc c) clients else send_choices (suc c) clients
+send_choices c (client ∷ clients) = if can_send client then Send c ∷ send_choices (suc c) clients
+    else send_choices (suc c) clients
 
 abbrev pub deliver_choices : Bool → ℕ → List Message → List Event
 deliver_choices running i [] = []
-deliver_choices running i (m ∷ bag) = if can_deliver running m then Deliver i ∷ deliver_choices running (suc i) bag else deliver_choices running (suc i) bag
+deliver_choices running i (m ∷ bag) = if can_deliver running m then Deliver i ∷ deliver_choices running (suc i) bag
+    else deliver_choices running (suc i) bag
 
 abbrev pub choice_if : Bool → Event → List Event
 choice_if test e = if test then e ∷ [] else []
 
 -- the events other than orders that can happen, in the order in which a pick counts them
 abbrev pub choices : State → List Event
-choices s = send_choices 0 s.clients ++ deliver_choices s.running 0 s.bag ++ choice_if (is_some (tick s.controller)) Tick ++ choice_if (can_recover s) Recover ++ choice_if (is_some (ready s.controller)) Restart
-
-abbrev pub is_none_left : List Event → Bool
-is_none_left [] = true
-is_none_left (e ∷ es) = false
+choices s = send_choices 0 s.clients ++ deliver_choices s.running 0 s.bag
+    ++ choice_if (is_some (tick s.controller)) Tick ++ choice_if (can_recover s) Recover
+    ++ choice_if (is_some (ready s.controller)) Restart
 
 -- the first order that is not done can happen where it is possible, once its number has come or nothing else can happen
 abbrev pub is_order_due : State → Option Order → Bool
 is_order_due s None = false
-is_order_due s (Some order) = is_possible s order && (nat_le (due_number order) (counted_for s order) || is_none_left (choices s))
+is_order_due s (Some order) = is_possible s order
+    && (nat_le (due_number order) (counted_for s order) || is_empty (choices s))
 
 abbrev pub is_order_enabled : PlanView → State → Bool
 is_order_enabled plan s = is_order_due s (slice_get plan.orders s.done)

@@ -1,5 +1,5 @@
 -- Slots as the controller knows them, and one eviction: peek, store at the server, remove, at most three times.
-use Rattle.std.specs.Prelude.{◌≡◌, ℕ, suc, ◌+◌, Bool, true, false, ◌&&◌, not, nat_eq, if◌then◌else◌, List, [], ◌∷◌, ◌++◌, length, take, drop, slice_index_or, Option, None, Some}
+use Rattle.std.specs.Prelude.{ℕ, ◌+◌, Bool, true, false, ◌&&◌, nat_eq, if◌then◌else◌, List, [], ◌∷◌, length, take, drop, slice_index_or, Option, None, Some}
 use Rattle.far_base.specs.declared.packet.Packet.{Packet}
 use Rattle.far_base.specs.declared.packet.Packet.TheVariants.{Peek, Remove}
 use Rattle.far_base.specs.declared.record.Record.{Record}
@@ -66,7 +66,8 @@ or_from_front None front = front
 
 -- the first held slot from the hand on, going round
 abbrev pub victim : ℕ → List SlotState → Option ℕ
-victim hand slots = or_from_front (moved_on hand (first_place is_held (drop hand slots))) (first_place is_held (take hand slots))
+victim hand slots =
+    or_from_front (moved_on hand (first_place is_held (drop hand slots))) (first_place is_held (take hand slots))
 
 -- the hand stands after the victim, and after the last slot at 0 again
 abbrev pub hand_after : ℕ → List SlotState → ℕ
@@ -101,7 +102,17 @@ no_item key = record { key = key; num = 0; body = None }
 
 -- an eviction begins with a look at the slot
 abbrev pub begins_eviction : ℕ → ℕ → List ℕ → ℕ → Bool → Eviction
-begins_eviction epoch slot key tag for_want = record { epoch = epoch; slot = slot; key = key; tag = tag; for_want = for_want; due = Peeked; tries = 0; job = 0; item = no_item key }
+begins_eviction epoch slot key tag for_want = record {
+  epoch = epoch;
+  slot = slot;
+  key = key;
+  tag = tag;
+  for_want = for_want;
+  due = Peeked;
+  tries = 0;
+  job = 0;
+  item = no_item key;
+}
 
 abbrev pub peek_of : Eviction → Packet
 peek_of e = Peek e.epoch e.slot e.tag
@@ -111,7 +122,8 @@ shown_item e num body = record { key = e.key; num = num; body = body }
 
 -- a latest slot's record goes to its server first; an outdated one can be removed at once
 abbrev pub after_peek : Eviction → Bool → ℕ → Option (List ℕ) → Next
-after_peek e latest num body = if latest then Store (shown_item e num body) else Send (Remove e.epoch e.slot e.tag false 0)
+after_peek e latest num body = if latest then Store (shown_item e num body)
+    else Send (Remove e.epoch e.slot e.tag false 0)
 
 -- what was stored may be removed, where the slot still has that number
 abbrev pub after_store : Eviction → Packet
@@ -119,7 +131,8 @@ after_store e = Remove e.epoch e.slot e.tag true e.item.num
 
 -- a slot that changed meanwhile is stored again, and after the third removal it stays
 abbrev pub after_removal : Eviction → Bool → ℕ → Option (List ℕ) → Next
-after_removal e done num body = if done then Done e.tries else (if nat_eq e.tries TRIES then Kept TRIES (shown_item e num body) else Store (shown_item e num body))
+after_removal e done num body = if done then Done e.tries
+    else (if nat_eq e.tries TRIES then Kept TRIES (shown_item e num body) else Store (shown_item e num body))
 
 -- whether the eviction waits for this answer of this slot and tag
 abbrev pub is_due : Due → Due → Bool

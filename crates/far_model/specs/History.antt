@@ -18,7 +18,9 @@ read_rank true = 1
 
 -- the order of places: by moment, then number, then writes before reads, then operation
 abbrev pub Before : Placed → Placed → Type 0
-Before x y = (x.moment < y.moment) ⊎ ((x.moment ≡ y.moment) × ((x.num < y.num) ⊎ ((x.num ≡ y.num) × ((read_rank x.read < read_rank y.read) ⊎ ((read_rank x.read ≡ read_rank y.read) × (x.op < y.op))))))
+Before x y = (x.moment < y.moment) ⊎ ((x.moment ≡ y.moment)
+    × ((x.num < y.num) ⊎ ((x.num ≡ y.num)
+    × ((read_rank x.read < read_rank y.read) ⊎ ((read_rank x.read ≡ read_rank y.read) × (x.op < y.op))))))
 
 -- a write is placed at the moment at which its own number takes effect
 pub record IsWritePlace (log : List LogLine) (line : OpLine) (place : Placed) : Type 0 where
@@ -94,17 +96,27 @@ IsLegal log history = IsLegalFrom log (λ key. nothing) history
 
 -- an operation that was answered before another was sent stands before it
 abbrev pub KeepsRealTimeOrder : List LogLine → List Placed → Type 0
-KeepsRealTimeOrder log history = (i j : ℕ) (x y : Placed) (a : At ℕ) (s : At OpLine) → slice_get history i ≡ Some x → slice_get history j ≡ Some y
+KeepsRealTimeOrder log history = (i j : ℕ) (x y : Placed) (a : At ℕ) (s : At OpLine) → slice_get history i ≡ Some x
+    → slice_get history j ≡ Some y
     → answering log x.op ≡ Some a → sending log y.op ≡ Some s → a.moment < s.moment → i < j
 
 pub record IsLinearizable (log : List LogLine) (history : List Placed) : Type 0 where
   pub legal : IsLegal log history
   pub in_time : KeepsRealTimeOrder log history
 
+-- the log has a history; it is legal and keeps real-time order, and the log has no other
+pub record HasOneLegalHistory (log : List LogLine) : Type 0 where
+  pub history : List Placed
+  pub is : IsHistory log history
+  pub linearizable : IsLinearizable log history
+  pub only : (other : List Placed) → IsHistory log other → other ≡ history
+
 -- the last write of the key
 abbrev pub last_write : List LogLine → List ℕ → Option Versioned → List Placed → Option Versioned
 last_write log key last [] = last
-last_write log key last (p ∷ ps) = last_write log key (if p.read then last else (if same_key key (key_of log p.op) then Some (written_by log p) else last)) ps
+last_write log key last (p ∷ ps) =
+    last_write log key (if p.read then last
+    else (if same_key key (key_of log p.op) then Some (written_by log p) else last)) ps
 
 abbrev pub held_in : Record → Versioned
 held_in r = record { num = r.num; body = r.body }
@@ -128,4 +140,5 @@ pub record IsNewestPerKey (records newest : List Record) : Type 0 where
   pub ordered : Pairs IsKeyBefore newest
   pub sound : (r : Record) → Among r newest → Among r records × (0 < r.num)
   pub greatest : (r other : Record) → Among r newest → Among other records → other.key ≡ r.key → other.num ≤ r.num
-  pub complete : (other : Record) → Among other records → 0 < other.num → (r : Record) × Among r newest × (r.key ≡ other.key)
+  pub complete : (other : Record) → Among other records → 0 < other.num → (r : Record) × Among r newest
+      × (r.key ≡ other.key)

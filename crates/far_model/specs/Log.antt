@@ -1,5 +1,5 @@
 -- What a log says of an operation, and which numbers it has shown.
-use Rattle.std.specs.Prelude.{◌≡◌, ℕ, ◌≤◌, max, Bool, true, false, if◌then◌else◌, ◌==◌, nat_le, List, [], ◌∷◌, Option, None, Some}
+use Rattle.std.specs.Prelude.{ℕ, ◌≤◌, max, Bool, true, false, if◌then◌else◌, ◌==◌, nat_le, List, [], ◌∷◌, Option, None, Some}
 use Rattle.std.specs.Cmp.Lexicographic.{pointwise}
 use Rattle.std.specs.Prelude.{eqb}
 use Rattle.far_base.specs.declared.plan.Op.{Op}
@@ -7,7 +7,7 @@ use Rattle.far_base.specs.declared.plan.Op.TheVariants.{Get, Put, Del}
 use Rattle.far_base.specs.declared.plan.OpLine.{OpLine}
 use Rattle.far_base.specs.declared.log.LogLine.{LogLine}
 use Rattle.far_base.specs.declared.log.LogEntry.{LogEntry}
-use Rattle.far_base.specs.declared.log.LogEntry.TheVariants.{Sent, Numbered, Emitted, Answered, Admitted, Evicted, Kept, Snapped, SnapItem, Stopped, Recovered, RecItem}
+use Rattle.far_base.specs.declared.log.LogEntry.TheVariants.{Sent, Numbered, Emitted, Answered}
 
 -- a log as contracts see it
 pub record LogView : Type 0 where
@@ -52,7 +52,8 @@ numbered_by op (Numbered other num) = if other == op then Some num else None
 numbered_by op _ = None
 
 abbrev pub emitted_by : ℕ → LogEntry → Option Answer
-emitted_by op (Emitted other num body near) = if other == op then Some (record { num = num; body = body; near = near }) else None
+emitted_by op (Emitted other num body near) = if other == op then Some (record { num = num; body = body; near = near })
+    else None
 emitted_by op _ = None
 
 abbrev pub answered_by : ℕ → LogEntry → Option ℕ
@@ -84,18 +85,19 @@ abbrev pub is_on : List LogLine → List ℕ → ℕ → Bool
 is_on log key op = sent_on key (sending log op)
 
 -- the number that a line shows for one of those operations
-abbrev pub number_shown : (ℕ → Bool) → LogEntry → ℕ
-number_shown on (Emitted op num body near) = if on op then num else 0
-number_shown on _ = 0
+abbrev pub number_exposed : (ℕ → Bool) → LogEntry → ℕ
+number_exposed on (Emitted op num body near) = if on op then num else 0
+number_exposed on _ = 0
 
 -- the greatest number that lines up to the moment show for those operations
-abbrev pub greatest_shown : (ℕ → Bool) → ℕ → List LogLine → ℕ
-greatest_shown on moment [] = 0
-greatest_shown on moment (l ∷ ls) = max (if nat_le l.moment moment then number_shown on l.entry else 0) (greatest_shown on moment ls)
+abbrev pub greatest_exposed : (ℕ → Bool) → ℕ → List LogLine → ℕ
+greatest_exposed on moment [] = 0
+greatest_exposed on moment (l ∷ ls) =
+    max (if nat_le l.moment moment then number_exposed on l.entry else 0) (greatest_exposed on moment ls)
 
 -- the greatest number of the key that has left the switch up to the moment
 abbrev pub exposed : List LogLine → List ℕ → ℕ → ℕ
-exposed log key moment = greatest_shown (is_on log key) moment log
+exposed log key moment = greatest_exposed (is_on log key) moment log
 
 -- the moment at which a number takes effect: the first at which the exposed number is at least that
 pub record IsTakingMoment (log : List LogLine) (key : List ℕ) (num moment : ℕ) : Type 0 where

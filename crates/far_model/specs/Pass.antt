@@ -1,14 +1,14 @@
 -- One pass of a packet through the switch: the table of cases.
-use Rattle.std.specs.Prelude.{◌≡◌, ℕ, suc, ◌+◌, ◌%◌, max, Bool, true, false, not, ◌&&◌, ◌||◌, nat_lt, nat_le, nat_eq, if◌then◌else◌, List, [], ◌∷◌, ◌++◌, slice_set, slice_index_or, Option, None, Some}
+use Rattle.std.specs.Prelude.{ℕ, ◌+◌, ◌%◌, max, Bool, true, false, not, ◌&&◌, nat_lt, nat_le, nat_eq, if◌then◌else◌, List, [], ◌∷◌, ◌++◌, slice_set, slice_index_or, Option, None, Some}
 use Rattle.far_base.specs.Key.{weighted_sum}
 use Rattle.far_base.specs.declared.log.LogEntry.{LogEntry}
 use Rattle.far_base.specs.declared.log.LogEntry.TheVariants.{Numbered, Emitted}
 use Rattle.far_base.specs.declared.packet.Out.{Out}
 use Rattle.far_base.specs.declared.packet.Packet.{Packet}
-use Rattle.far_base.specs.declared.packet.Packet.TheVariants.{GetReq, WriteReq, GetFwd, WriteFwd, GetRep, WriteRep, GetAns, WriteAns, Hot, Admit, AdmitAck, Peek, PeekAns, Remove, RemoveAns, SnapStart, SnapBegun, SnapRead, SnapPart, Store, Stored, Release, Ask, Told, TopAsk, TopIs, SnapSame, SnapFrom}
+use Rattle.far_base.specs.declared.packet.Packet.TheVariants.{GetReq, WriteReq, GetFwd, WriteFwd, GetRep, WriteRep, GetAns, WriteAns, Hot, Admit, AdmitAck, Peek, PeekAns, Remove, RemoveAns, SnapStart, SnapBegun, SnapRead, SnapPart, SnapSame, SnapFrom}
 use Rattle.far_base.specs.declared.party.Party.{Party}
 use Rattle.far_base.specs.declared.record.Record.{Record}
-use Rattle.far_base.specs.declared.party.Party.TheVariants.{Client, Switch, Server, Controller}
+use Rattle.far_base.specs.declared.party.Party.TheVariants.{Client, Server, Controller}
 use Rattle.far_model.specs.View.{SlotView, SwitchView, HotCell, HOT_CELLS, slot_at, entry_place, server_of, bind_key, held_record, shown_body, mark_of, same_mark, taken_at, shown_at, is_taken, empty_slot}
 
 -- what a pass leaves: the view, and at most two packets
@@ -31,7 +31,8 @@ in_era era cell = if nat_eq cell.era era then cell else record { era = era; coun
 
 -- the count rises, and begins anew where it reaches `hot`; with `hot` 0 nothing is counted
 abbrev pub counted : ℕ → HotCell → HotCell
-counted hot cell = if nat_eq hot 0 then cell else record { era = cell.era; count = if nat_le hot (cell.count + 1) then 0 else cell.count + 1 }
+counted hot cell = if nat_eq hot 0 then cell
+    else record { era = cell.era; count = if nat_le hot (cell.count + 1) then 0 else cell.count + 1 }
 
 -- whether the key has grown hot by this touch
 abbrev pub grows_hot : ℕ → HotCell → Bool
@@ -52,10 +53,10 @@ told_hot key v = if grows_hot v.config.hot (hot_cell key v) then sent_to Control
 
 -- ---- the first change of a slot in an era
 
--- whether the slot holds what the snapshot that parts may refer to has of it: its last part was of that snapshot, and
--- the mark has not changed
+-- whether the slot's last part was of the snapshot that parts may refer to, and it has the same mark now
 abbrev pub is_as_before : SwitchView → ℕ → Bool
-is_as_before v i = nat_lt 0 v.base && (nat_eq (taken_at v i) v.base && same_mark (shown_at v i) (mark_of (held_record (slot_at v i))))
+is_as_before v i = nat_lt 0 v.base
+    && (nat_eq (taken_at v i) v.base && same_mark (shown_at v i) (mark_of (held_record (slot_at v i))))
 
 -- the part of a slot that leaves: what the slot holds before it changes
 abbrev pub part_packet : SwitchView → ℕ → Packet
@@ -73,7 +74,8 @@ with_taken v i view = record v { taken = slice_set v.taken i v.snap; shown = sli
 
 -- the record of slot i is set or taken away: where its part was not taken, it leaves now
 abbrev pub changed_view : SwitchView → ℕ → SlotView → SwitchView
-changed_view v i slot = if is_taken v i then with_slot v i slot else with_taken (with_slot v i slot) i (held_record (slot_at v i))
+changed_view v i slot = if is_taken v i then with_slot v i slot
+    else with_taken (with_slot v i slot) i (held_record (slot_at v i))
 
 abbrev pub part_left : SwitchView → ℕ → Option Out
 part_left v i = if is_taken v i then None else part_of v i
@@ -108,7 +110,8 @@ absorbing num body slot = record slot { latest = true; num = num; body = body }
 -- a write that has got the counter's number: absorbed by an entry, else forwarded
 abbrev pub write_passes : SwitchView → ℕ → ℕ → List ℕ → Option (List ℕ) → Option ℕ → Passed
 write_passes v caller op key body (Some i) =
-    changes v i (absorbing v.counter body (slot_at v i)) (sent_to (Client caller) (WriteAns caller op key v.counter true))
+    changes v i (absorbing v.counter body (slot_at v i))
+    (sent_to (Client caller) (WriteAns caller op key v.counter true))
 write_passes v caller op key body None = record {
   view = touched key v;
   first = sent_to (Server (server_of v.config key)) (WriteFwd caller op key v.counter body);
@@ -147,7 +150,8 @@ is_slot_there v epoch i = nat_eq epoch v.epoch && nat_lt i v.config.slots
 
 -- a slot that is not valid takes the key and the tag, and is outdated
 abbrev pub admitted : List ℕ → ℕ → SlotView → SlotView
-admitted key tag slot = if slot.valid then slot else record { key = Some key; tag = tag; valid = true; latest = false; num = 0; body = None }
+admitted key tag slot = if slot.valid then slot
+    else record { key = Some key; tag = tag; valid = true; latest = false; num = 0; body = None }
 
 abbrev pub admits : SwitchView → ℕ → List ℕ → ℕ → Passed
 admits v i key tag = record {
@@ -186,7 +190,11 @@ removes v i tag latest num slot = if may_go tag latest num slot
     else record { view = v; first = removed_answer i tag false slot; second = None }
 
 abbrev pub starts_snapshot : SwitchView → ℕ → ℕ → Passed
-starts_snapshot v id base = record { view = record v { snap = id; base = base }; first = sent_to Controller (SnapBegun id v.counter); second = None }
+starts_snapshot v id base = record {
+  view = record v { snap = id; base = base };
+  first = sent_to Controller (SnapBegun id v.counter);
+  second = None;
+}
 
 abbrev pub reads_part : SwitchView → ℕ → ℕ → Passed
 reads_part v id i = if nat_eq id v.snap && not (is_taken v i)
@@ -199,12 +207,14 @@ abbrev pub pass : SwitchView → Packet → Passed
 pass v (GetReq caller op key) = read_passes v caller op key (entry_place key v)
 pass v (WriteReq caller op key body) = write_passes (numbered v) caller op key body (entry_place key v)
 pass v (GetRep caller op key tag num body) =
-    reply_passes v (Some tag) num body (sent_to (Client caller) (GetAns caller op key num body false)) (entry_place key v)
+    reply_passes v (Some tag) num body (sent_to (Client caller) (GetAns caller op key num body false))
+    (entry_place key v)
 pass v (WriteRep caller op key num body) =
     reply_passes v None num body (sent_to (Client caller) (WriteAns caller op key num false)) (entry_place key v)
 pass v (Admit epoch i key tag) = if is_slot_there v epoch i then admits v i key tag else dropped v
 pass v (Peek epoch i tag) = if is_slot_there v epoch i then peeks v i tag (slot_at v i) else dropped v
-pass v (Remove epoch i tag latest num) = if is_slot_there v epoch i then removes v i tag latest num (slot_at v i) else dropped v
+pass v (Remove epoch i tag latest num) = if is_slot_there v epoch i then removes v i tag latest num (slot_at v i)
+    else dropped v
 pass v (SnapStart epoch id) = if nat_eq epoch v.epoch then starts_snapshot v id 0 else dropped v
 pass v (SnapFrom epoch id base) = if nat_eq epoch v.epoch then starts_snapshot v id base else dropped v
 pass v (SnapRead epoch id i) = if is_slot_there v epoch i then reads_part v id i else dropped v

@@ -1,7 +1,7 @@
 -- How many packets of each kind have come to a running switch since the opening.
 use Rattle.std.specs.Prelude.{ℕ, suc, List, replicate, slice_index_or, slice_set, Option, None, Some}
 use Rattle.far_base.specs.declared.packet.Packet.{Packet}
-use Rattle.far_base.specs.declared.packet.Packet.TheVariants.{GetReq, WriteReq, GetFwd, WriteFwd, GetRep, WriteRep, GetAns, WriteAns, Hot, Admit, AdmitAck, Peek, PeekAns, Remove, RemoveAns, SnapStart, SnapBegun, SnapRead, SnapPart, Store, Stored, Release, Ask, Told, TopAsk, TopIs, SnapSame, SnapFrom}
+use Rattle.far_base.specs.declared.packet.Packet.TheVariants.{GetReq, WriteReq, GetRep, WriteRep, Admit, Peek, Remove, SnapStart, SnapRead, SnapFrom}
 use Rattle.far_base.specs.declared.plan.PassKind.{PassKind}
 use Rattle.far_base.specs.declared.plan.PassKind.TheVariants.{GetReq as GetReqPass, WriteReq as WriteReqPass, GetRep as GetRepPass, WriteRep as WriteRepPass, Admit as AdmitPass, Peek as PeekPass, Remove as RemovePass, SnapStart as SnapStartPass, SnapRead as SnapReadPass}
 

@@ -1,5 +1,5 @@
 -- One round of recovery: what clients have told, stores under way, and the servers' greatest numbers.
-use Rattle.std.specs.Prelude.{◌≡◌, ℕ, suc, ◌+◌, ◌-◌, max, Bool, true, false, ◌&&◌, not, nat_eq, nat_le, nat_lt, if◌then◌else◌, List, [], ◌∷◌, replicate, slice_index_or, is_some, Option, None, Some}
+use Rattle.std.specs.Prelude.{ℕ, ◌+◌, max, Bool, false, ◌&&◌, not, nat_eq, nat_le, if◌then◌else◌, List, [], ◌∷◌, replicate, slice_index_or, is_some, Option, None, Some}
 use Rattle.std.specs.List.{list_all}
 
 -- what a client has told: how many records it said it has, and how many messages came
@@ -19,7 +19,14 @@ abbrev pub no_telling : Telling
 no_telling = record { total = None; count = 0 }
 
 abbrev pub new_round : ℕ → ℕ → ℕ → ℕ → ℕ → Round
-new_round number first_job clients servers stores = record { number = number; first_job = first_job; told = replicate clients no_telling; stores = stores; asked = false; tops = replicate servers None }
+new_round number first_job clients servers stores = record {
+  number = number;
+  first_job = first_job;
+  told = replicate clients no_telling;
+  stores = stores;
+  asked = false;
+  tops = replicate servers None;
+}
 
 abbrev pub told_of : Option ℕ → ℕ → Bool
 told_of None count = false
@@ -51,4 +58,5 @@ greatest_top (Some top ∷ tops) = max top (greatest_top tops)
 
 -- the new counter, once every client, every store and every server has answered
 abbrev pub ready_counter : Round → Option ℕ
-ready_counter r = if (r.asked && list_all is_some r.tops) && (list_all has_told r.told && nat_eq r.stores 0) then Some (greatest_top r.tops) else None
+ready_counter r = if (r.asked && list_all is_some r.tops) && (list_all has_told r.told && nat_eq r.stores 0)
+    then Some (greatest_top r.tops) else None

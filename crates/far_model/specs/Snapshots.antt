@@ -1,23 +1,22 @@
 -- A snapshot while its parts are gathered, and a completed one.
-use Rattle.std.specs.Prelude.{◌≡◌, ℕ, suc, ◌+◌, Bool, true, false, ◌&&◌, nat_eq, nat_lt, if◌then◌else◌, List, [], ◌∷◌, ◌++◌, map, replicate, slice_index_or, slice_set, is_some, Option, None, Some}
+use Rattle.std.specs.Prelude.{ℕ, suc, ◌+◌, Bool, ◌&&◌, if◌then◌else◌, List, [], ◌∷◌, map, replicate, slice_index_or, slice_set, is_some, Option, None, Some}
 use Rattle.std.specs.List.{list_all}
 use Rattle.far_base.specs.declared.log.LogEntry.{LogEntry}
 use Rattle.far_base.specs.declared.log.LogEntry.TheVariants.{SnapItem}
 use Rattle.far_base.specs.declared.packet.Out.{Out}
-use Rattle.far_base.specs.declared.packet.Packet.TheVariants.{SnapRead, Release}
-use Rattle.far_base.specs.declared.party.Party.TheVariants.{Client, Switch}
+use Rattle.far_base.specs.declared.packet.Packet.TheVariants.{SnapRead}
+use Rattle.far_base.specs.declared.party.Party.TheVariants.{Switch}
 use Rattle.far_base.specs.declared.record.Record.{Record}
 use Rattle.far_model.specs.Parties.{to_party}
 
--- per slot the part that has come: what the slot held when the snapshot began; `sames` of them are those of the last
--- completed snapshot
+-- per slot the part that has come; `sames` of them came as those of the last completed snapshot
 pub record Job : Type 0 where
   pub id : ℕ
   pub begun : Option ℕ
   pub parts : List (Option (Option Record))
   pub sames : ℕ
 
--- a completed snapshot: the number at which it began, and per slot what the slot held then
+-- a completed snapshot: the number that the switch had counted at its beginning, and per slot the part that came
 pub record SnapshotView : Type 0 where
   pub id : ℕ
   pub point : ℕ
@@ -62,7 +61,8 @@ completed job = record { id = job.id; point = number_or_none job.begun; views = 
 -- a read of each slot from i on that has no part
 abbrev pub part_reads : ℕ → ℕ → ℕ → List (Option (Option Record)) → List Out
 part_reads epoch id i [] = []
-part_reads epoch id i (part ∷ parts) = if is_some part then part_reads epoch id (suc i) parts else to_party Switch (SnapRead epoch id i) ∷ part_reads epoch id (suc i) parts
+part_reads epoch id i (part ∷ parts) = if is_some part then part_reads epoch id (suc i) parts
+    else to_party Switch (SnapRead epoch id i) ∷ part_reads epoch id (suc i) parts
 
 -- the records of the views that are there, from slot i on
 abbrev pub view_items : ℕ → List (Option Record) → List LogEntry

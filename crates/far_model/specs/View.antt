@@ -1,10 +1,11 @@
 -- What contracts see of a switch.
-use Rattle.std.specs.Prelude.{◌≡◌, ℕ, zero, suc, ◌%◌, Bool, true, false, not, ◌&&◌, nat_lt, nat_eq, if◌then◌else◌, List, [], ◌∷◌, map, replicate, slice_set, slice_index_or, sum, Option, None, Some}
+use Rattle.std.specs.Prelude.{ℕ, suc, ◌%◌, Bool, true, false, ◌&&◌, nat_eq, if◌then◌else◌, List, [], ◌∷◌, map, replicate, slice_set, slice_index_or, sum, Option, None, Some}
 use Rattle.far_base.specs.declared.plan.Config.{Config}
 use Rattle.far_base.specs.declared.record.Record.{Record}
 use Rattle.far_model.specs.Log.{same_key}
 
--- a slot: a valid slot has a key; a latest one has the newest record of it, and an outdated one only its number
+-- a slot: whether it is valid, and of which key and tag; where it is latest it has a record of the key, and where it is
+-- outdated a number alone
 pub record SlotView : Type 0 where
   pub key : Option (List ℕ)
   pub tag : ℕ
@@ -40,8 +41,8 @@ same_mark None (Some b) = false
 same_mark (Some a) None = false
 same_mark (Some a) (Some b) = same_key a.key b.key && nat_eq a.num b.num
 
--- the switch: per slot the key that is bound to it, the slot, the era in which its part of a snapshot was taken, and
--- the mark of what it held when that snapshot began; `base` is the snapshot that parts may refer to, or 0
+-- the switch: per slot the key that is bound to it, the slot, the era in which its last part of a snapshot was taken,
+-- and the mark that it had when that part was taken; `base` is the snapshot that parts may refer to, or 0
 pub record SwitchView : Type 0 where
   pub config : Config
   pub epoch : ℕ

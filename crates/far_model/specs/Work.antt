@@ -1,5 +1,5 @@
 -- The work that is left in a state: a sum of weights that each event lowers.
-use Rattle.std.specs.Prelude.{◌≡◌, ℕ, zero, suc, ◌+◌, ◌-◌, ◌*◌, max, Bool, true, false, ◌&&◌, ◌||◌, not, nat_eq, nat_le, if◌then◌else◌, List, [], ◌∷◌, length, drop, is_some, Option, None, Some}
+use Rattle.std.specs.Prelude.{ℕ, zero, suc, ◌+◌, ◌-◌, ◌*◌, Bool, false, ◌&&◌, not, if◌then◌else◌, List, [], ◌∷◌, length, drop, is_some, Option, None, Some}
 use Rattle.std.specs.List.{count_by, sum_by}
 use Rattle.far_base.specs.Limits.{is_slot_order, is_snap, is_stop}
 use Rattle.far_base.specs.PlanView.{PlanView}
@@ -7,7 +7,7 @@ use Rattle.far_base.specs.declared.packet.Message.{Message}
 use Rattle.far_base.specs.declared.packet.Packet.{Packet}
 use Rattle.far_base.specs.declared.packet.Packet.TheVariants.{GetReq, WriteReq, GetFwd, WriteFwd, GetRep, WriteRep, GetAns, WriteAns, Hot, Admit, AdmitAck, Peek, PeekAns, Remove, RemoveAns, SnapStart, SnapBegun, SnapRead, SnapPart, Store, Stored, Release, Ask, Told, TopAsk, TopIs, SnapSame, SnapFrom}
 use Rattle.far_base.specs.declared.party.Party.{Party}
-use Rattle.far_base.specs.declared.party.Party.TheVariants.{Client, Switch, Server, Controller}
+use Rattle.far_base.specs.declared.party.Party.TheVariants.{Client}
 use Rattle.far_base.specs.declared.plan.Order.{Order}
 use Rattle.far_base.specs.declared.plan.Order.TheVariants.{Admit as AdmitOrder, Evict as EvictOrder, Snap as SnapOrder, Stop as StopOrder, StopAt as StopAtOrder}
 use Rattle.far_base.specs.declared.record.Record.{Record}
@@ -22,14 +22,17 @@ use Rattle.far_model.specs.View.{SwitchView, is_taken}
 -- ---- the bound on the steps of a plan
 
 abbrev pub work_bound : PlanView → ℕ
-work_bound plan = 32 * (length plan.ops + count_by is_slot_order plan.orders + plan.config.slots + plan.config.clients + plan.config.servers + 1)
+work_bound plan =
+    32 * (length plan.ops + count_by is_slot_order plan.orders + plan.config.slots + plan.config.clients
+    + plan.config.servers + 1)
     * (count_by is_snap plan.orders + count_by is_stop plan.orders + 1)
 
 -- ---- the weight of each thing
 
 -- of a switch that is stopped, before recovery begins
 abbrev pub stopped_weight : PlanView → ℕ
-stopped_weight plan = 2 * plan.config.clients + 3 * length plan.ops + 2 * plan.config.slots + 2 * plan.config.servers + 2
+stopped_weight plan =
+    2 * plan.config.clients + 3 * length plan.ops + 2 * plan.config.slots + 2 * plan.config.servers + 2
 
 abbrev pub order_weight : PlanView → Order → ℕ
 order_weight plan (AdmitOrder step key) = 19
