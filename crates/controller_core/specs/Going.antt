@@ -1,13 +1,15 @@
--- How an eviction goes on.
+-- How an eviction and a snapshot go on.
 use Rattle.std.specs.Prelude.{◌≡◌, ℕ, ◌+◌, List, [], ◌∷◌, Option, None, Some}
 use Rattle.far_base.specs.declared.log.LogEntry.TheVariants.{Evicted, Kept as KeptNote}
 use Rattle.far_base.specs.declared.party.Party.TheVariants.{Switch}
 use Rattle.far_base.specs.declared.plan.Config.{Config}
 use Rattle.far_base.specs.declared.slot_state.Due.TheVariants.{Stored, Over}
 use Rattle.far_base.specs.declared.slot_state.SlotState.TheVariants.{Free, Held}
-use Rattle.far_model.specs.Controller.{ControllerState, with_state, store_of, drop_want_if}
+use Rattle.far_base.specs.declared.record.Record.{Record}
+use Rattle.far_model.specs.Controller.{ControllerState, with_state, store_of, drop_want_if, same_part}
 use Rattle.far_model.specs.Evictions.{Eviction, Next, Send, Store, Done, Kept, removing}
 use Rattle.far_model.specs.Parties.{Turn, idle, to_party}
+use Rattle.far_model.specs.Snapshots.{Job}
 use Rattle.safe_evict.specs.EvictView.{next_of}
 use Rattle.safe_evict.specs.declared.next.Next.{Next as NextStep}
 
@@ -32,3 +34,8 @@ goes_on config c e (Kept tries last) = record { state = drop_want_if e.for_want 
 abbrev pub goes_on_if : Config → ControllerState → Eviction → Option NextStep → Turn ControllerState
 goes_on_if config c e None = idle (record c { eviction = Some e })
 goes_on_if config c e (Some next) = goes_on config c e (next_of next)
+
+-- the view is added as the part of the slot
+abbrev pub same_with : Config → ControllerState → ℕ → ℕ → Option Record → Option Job → Turn ControllerState
+same_with config c id i view None = idle c
+same_with config c id i view (Some job) = same_part config c id i job (Some view)

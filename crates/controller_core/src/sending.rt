@@ -45,7 +45,6 @@ pub(crate) fn send_store(config: &Config, job: u64, item: Record, out: &mut Vec<
 }
 
 /// The packet to each client, in rising order; there is room.
-#[tactic(auto, using(crate::proofs::Sends::clients_step))]
 pub(crate) fn send_to_clients(clients: u32, packet: &Packet, out: &mut Vec<Out>)
     requires { vec_len out.old + clients ≤ vec_capacity out.old }
     ensures out { out.new.items ≡ out.old.items ++ model.to_clients 0 clients packet.now }
@@ -58,7 +57,6 @@ pub(crate) fn send_to_clients(clients: u32, packet: &Packet, out: &mut Vec<Out>)
 }
 
 /// The packet to each server, in rising order; there is room.
-#[tactic(auto, using(crate::proofs::Sends::servers_step))]
 pub(crate) fn send_to_servers(servers: u32, packet: &Packet, out: &mut Vec<Out>)
     requires { vec_len out.old + servers ≤ vec_capacity out.old }
     ensures out { out.new.items ≡ out.old.items ++ model.to_servers 0 servers packet.now }
