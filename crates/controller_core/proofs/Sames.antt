@@ -1,6 +1,9 @@
 -- The part of a slot that is what the last completed snapshot has of it.
-use Rattle.std.proofs.Common.{◌≡◌, ℕ, zero, suc, ◌<◌, ◌≤◌, Bool, true, false, List, [], ◌∷◌, length, refl, sym, ap, arith}
+use Rattle.std.proofs.Common.{◌≡◌, ℕ, zero, suc, ◌<◌, ◌≤◌, Bool, true, false, nat_lt, List, [], ◌∷◌, ◌++◌, length, refl, sym, ap, ◌∙◌, arith}
 use Rattle.std.specs.Prelude.{Option, None, Some, slice_get, slice_index_or}
+use Rattle.std.proofs.lemmas.Bool.{ltb-false}
+use Rattle.std.proofs.lemmas.List.{append-nil}
+use Rattle.far_base.specs.declared.packet.Out.{Out}
 use Rattle.far_base.specs.declared.plan.Config.{Config}
 use Rattle.far_base.specs.declared.record.Record.{Record}
 use Rattle.far_model.specs.Controller.{ControllerState, same_came, same_part}
@@ -25,3 +28,7 @@ no_view config c id i (Some job) h = ap (same_part config c id i job) (past_end 
 pub with_view : (config : Config) (c : ControllerState) (id i : ℕ) (o : Option Job) → i < length c.last.views → same_came config c id i o ≡ same_with config c id i (slice_index_or c.last.views i None) o
 with_view config c id i None h = refl
 with_view config c id i (Some job) h = ap (same_part config c id i job) (within c.last.views i h)
+
+-- where there is no view, nothing is sent
+pub silent : (config : Config) (c : ControllerState) (id i : ℕ) (o : Option Job) (before after : List Out) → nat_lt i (length c.last.views) ≡ false → after ≡ before → after ≡ before ++ (same_came config c id i o).out
+silent config c id i o before after h e = e ∙ sym (append-nil before) ∙ ap (λ (t : Turn ControllerState). before ++ t.out) (sym (no_view config c id i o (ltb-false i (length c.last.views) h)))
