@@ -8,8 +8,8 @@ use Rattle.std.proofs.Math.Bool.{or-false}
 use Rattle.std.proofs.lemmas.Option.{none-some, same_Some}
 use Rattle.std.proofs.lemmas.List.{get_or-drop, get_or-take, length-take, length-drop}
 use Rattle.far_base.specs.declared.slot_state.SlotState.{SlotState}
-use Rattle.far_base.specs.declared.slot_state.SlotState.TheVariants.{Free}
-use Rattle.far_model.specs.Evictions.{first_place, is_held, moved_on, or_from_front, state_at, victim}
+use Rattle.far_base.specs.declared.slot_state.SlotState.TheVariants.{Free, Admitting, Held, Evicting}
+use Rattle.far_model.specs.Evictions.{first_place, is_held, holds_key, moved_on, or_from_front, state_at, victim}
 use Rattle.far_model.specs.View.{next_place}
 
 abbrev pub counted_place : ℕ → ℕ → Option ℕ
@@ -74,6 +74,16 @@ within_is hand slots (Some i) e = (victim_is hand slots i (sym e)).within
 pub held_is : (hand : ℕ) (slots : List SlotState) (o : Option ℕ) → o ≡ victim hand slots → IfSome o (λ i. IsTrue (is_held (state_at slots i)))
 held_is hand slots None e = tt
 held_is hand slots (Some i) e = (victim_is hand slots i (sym e)).held
+
+holds_held : (key : List ℕ) (st : SlotState) → holds_key key st ≡ true → is_held st ≡ true
+holds_held key Free h = absurd cc
+holds_held key (Admitting other tag) h = absurd cc
+holds_held key (Held other tag) h = refl
+holds_held key (Evicting other tag) h = absurd cc
+
+pub key_held : (key : List ℕ) (slots : List SlotState) (o : Option ℕ) → o ≡ first_place (holds_key key) slots → IfSome o (λ i. IsTrue (is_held (state_at slots i)))
+key_held key slots None e = tt
+key_held key slots (Some i) e = holds_held key (state_at slots i) (first_some (holds_key key) slots i Free (sym e)).passes
 
 -- ---- whether some slot is held
 

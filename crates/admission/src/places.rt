@@ -59,11 +59,20 @@ pub(crate) fn first_with_key(slots: &[SlotState], key: &Key) -> Option<usize>
     slots.iter().position(|state| has_key(state, key))
 }
 
-pub(crate) fn first_that_holds(slots: &[SlotState], key: &Key) -> Option<usize>
+fn place_that_holds(slots: &[SlotState], key: &Key) -> Option<usize>
     ensures place { result ≡ model.first_place (model.holds_key key.now) slots.now }
     ensures within { IfSome result (λ i. i < length slots.now) }
 {
     slots.iter().position(|state| holds_key(state, key))
+}
+
+/// The first slot that is held and has the key.
+pub(crate) fn first_that_holds(slots: &[SlotState], key: &Key) -> Option<usize>
+    ensures place { result ≡ model.first_place (model.holds_key key.now) slots.now }
+    ensures within { IfSome result (λ i. i < length slots.now) }
+    ensures held { IfSome result (λ i. IsTrue (model.is_held (model.state_at slots.now i))) }
+{
+    place_that_holds(slots, key)
 }
 
 pub(crate) fn any_held(slots: &[SlotState]) -> bool

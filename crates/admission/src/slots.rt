@@ -101,7 +101,8 @@ impl Admission {
 
     /// The first slot that is held and has the key.
     pub fn held(&self, key: &Key) -> Option<u32>
-        ensures { result ≡ model.first_place (model.holds_key key.now) self.now.slots }
+        ensures place { result ≡ model.first_place (model.holds_key key.now) self.now.slots }
+        ensures held { IfSome result (λ slot. IsTrue (model.is_held (model.state_at self.now.slots slot))) }
     {
         Some(first_that_holds(&self.slots, key)? as u32)
     }

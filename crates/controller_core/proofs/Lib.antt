@@ -1,0 +1,6 @@
+pub mod Dues
+pub mod Sames
+pub mod Sends
+pub mod Slots
+pub mod Telling
+pub mod Ticks

@@ -1,0 +1,6 @@
+pub mod ControllerView
+pub mod Going
+pub mod Inside
+pub mod Notes
+pub mod Room
+pub mod Wants
