@@ -20,7 +20,7 @@ use Rattle.far_model.specs.Controller.{ControllerState, wanted, snapshot_begun, 
 use Rattle.far_model.specs.Events.{controller_turn, switch_turn}
 use Rattle.far_model.specs.Evictions.{state_at, is_free, first_place, is_admitting, key_in}
 use Rattle.far_invariants.specs.Invariants.{look}
-use Rattle.eviction_laws.specs.Needs.{PacketNeeds, Needs}
+use Rattle.far_invariants.specs.EvictionNeeds.{PacketNeeds, Needs}
 use Rattle.far_model.specs.Members.{Among}
 use Rattle.far_model.specs.Parties.{Turn, idle, messages_from}
 use Rattle.far_model.specs.Pass.{Passed, admits, admitted, dropped, is_slot_there, sent_to, pass_notes, passed_out}
@@ -33,7 +33,7 @@ use Rattle.run_laws.proofs.Admissions.{first_some, free_is}
 use Rattle.run_laws.proofs.Calm.{is_plain, IsCalm}
 use Rattle.run_laws.proofs.Frame.{member}
 use Rattle.run_laws.proofs.Seats.{SameOwner}
-use Rattle.eviction_laws.specs.Evicting.{Content, is_eviction_packet, is_eviction_of, EvictionPacketIs, EvictionsAre}
+use Rattle.far_invariants.specs.Evictions.{Content, is_eviction_packet, is_eviction_of, EvictionPacketIs, EvictionsAre}
 use Rattle.eviction_laws.proofs.Leaving.{SameEvictionBag, evictions_taken, evictions_grown, passes_leave, one_no}
 use Rattle.eviction_laws.proofs.Looking.{there_same}
 use Rattle.eviction_laws.proofs.Onward.{eviction_any, no_eviction_of, evictions_last}

@@ -31,8 +31,8 @@ use Rattle.run_laws.proofs.Controls.{IsControlNote}
 use Rattle.run_laws.proofs.Frame.{IsNote, log_cases, member}
 use Rattle.run_laws.proofs.Slots.{SetsSlot}
 use Rattle.run_laws.proofs.Step.{passed_state}
-use Rattle.eviction_laws.specs.Shown.{IsKnown, RecordIsKnown, ViewIsKnown, PacketIsKnown, ShownIsKnown}
-use Rattle.eviction_laws.specs.Evicting.{Onward}
+use Rattle.far_invariants.specs.Known.{IsKnown, RecordIsKnown, ViewIsKnown, PacketIsKnown, ShownIsKnown}
+use Rattle.far_invariants.specs.Evictions.{Onward}
 use Rattle.flight_laws.proofs.Lists.{by_test}
 
 pub known_onward : (plan : PlanView) (s t : State) → Onward plan s t → (key : List ℕ) (num : ℕ) → IsKnown plan s key num → IsKnown plan t key num

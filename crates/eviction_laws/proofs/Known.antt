@@ -34,10 +34,10 @@ use Rattle.flight_laws.proofs.Lists.{by_test}
 use Rattle.run_laws.proofs.Frame.{note_member}
 use Rattle.run_laws.proofs.Slots.{IsEntry, entry_is, both, there_is, with_slot_sets, taken_sets, SetsSlot}
 use Rattle.run_laws.proofs.Step.{passed_state}
-use Rattle.eviction_laws.specs.Needs.{PacketsAreOnKey}
-use Rattle.eviction_laws.specs.Shown.{IsKnown, RecordIsKnown, ViewIsKnown, PacketIsKnown, ShownIsKnown}
+use Rattle.far_invariants.specs.EvictionNeeds.{PacketsAreOnKey}
+use Rattle.far_invariants.specs.Known.{IsKnown, RecordIsKnown, ViewIsKnown, PacketIsKnown, ShownIsKnown}
 use Rattle.eviction_laws.proofs.Knowing.{known_onward, view_onward, OutIsKnown, pass_onward, pass_knows, slots_same, slots_set, client_knows, served_onward, server_knows, part_known}
-use Rattle.eviction_laws.specs.Evicting.{Onward}
+use Rattle.far_invariants.specs.Evictions.{Onward}
 use Rattle.eviction_laws.proofs.Storing.{its_look, more_at}
 
 hot_known : (plan : PlanView) (t : State) (key : List ℕ) (v : SwitchView) → OutIsKnown plan t (told_hot key v)

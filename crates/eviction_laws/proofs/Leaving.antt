@@ -31,9 +31,9 @@ use Rattle.flight_laws.proofs.Lists.{by_test}
 use Rattle.run_laws.proofs.Frame.{member}
 use Rattle.run_laws.proofs.Moves.{PassSits, read_sits, write_sits, reply_sits}
 use Rattle.run_laws.proofs.Seats.{SameOwner, counted, count_removed, count_append, count_none}
-use Rattle.eviction_laws.specs.Evicting.{Content, is_eviction_packet, is_eviction_of, EvictionPacketIs, EvictionsAre}
+use Rattle.far_invariants.specs.Evictions.{Content, is_eviction_packet, is_eviction_of, EvictionPacketIs, EvictionsAre}
 use Rattle.eviction_laws.proofs.Onward.{LeavesEvictions, eviction_any, no_eviction_of, evictions_last}
-use Rattle.eviction_laws.specs.Evicting.{Onward}
+use Rattle.far_invariants.specs.Evictions.{Onward}
 use Rattle.eviction_laws.proofs.Storing.{more_at}
 
 -- the bag of a step that takes and sends no packet of evictions

@@ -20,9 +20,9 @@ use Rattle.far_model.specs.View.{SlotView, slot_at, shown_body}
 use Rattle.far_model.proofs.Members.{among_append, among_at, among_remove}
 use Rattle.run_laws.proofs.Keeps.{Keeps}
 use Rattle.run_laws.proofs.Seats.{counted, count_removed, count_append, count_one, Seats, bag_taken, same_seats, seats_last, unchanged_slots}
-use Rattle.eviction_laws.specs.Needs.{Needs}
+use Rattle.far_invariants.specs.EvictionNeeds.{Needs}
 use Rattle.flight_laws.proofs.Lists.{by_test}
-use Rattle.eviction_laws.specs.Evicting.{Content, is_eviction_of, PeekIs, EvictionPacketIs, EvictionsAre}
+use Rattle.far_invariants.specs.Evictions.{Content, is_eviction_of, PeekIs, EvictionPacketIs, EvictionsAre}
 use Rattle.eviction_laws.proofs.Onward.{evictions_last}
 use Rattle.eviction_laws.proofs.Rules.{Rules, slot_rests, rules_keep}
 use Rattle.eviction_laws.proofs.Seating.{given_within}

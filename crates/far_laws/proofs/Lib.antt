@@ -4,4 +4,3 @@ pub mod Places
 pub mod Told
 pub mod Unique
 pub mod Walk
-pub mod Remembered

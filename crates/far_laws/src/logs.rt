@@ -4,7 +4,7 @@ ghost use Rattle.std.specs.Prelude.{◌≡◌, ℕ, ◌≤◌, List, Some, slice
 ghost use Rattle.far_base.specs.declared.record.Record.{Record};
 ghost use Rattle.far_base.specs.declared.log.LogLine.{LogLine};
 ghost use Rattle.far_base.specs.declared.log.Placed.{Placed};
-ghost use Rattle.far_laws.specs.Client.{KeepsClientOrder};
+ghost use Rattle.far_invariants.specs.ClientOrder.{KeepsClientOrder};
 ghost use Rattle.far_model.specs.Coherent.{IsCoherent};
 ghost use Rattle.far_model.specs.History.{IsFinalMap, IsHistory, IsLegal, IsLinearizable, IsPlace, KeepsRealTimeOrder, key_of};
 ghost use Rattle.far_model.specs.Log.{At, answering, exposed, numbering};

@@ -38,7 +38,7 @@ use Rattle.far_model.proofs.Members.{among_append, among_at, among_map_from, amo
 use Rattle.flight_laws.proofs.Lists.{by_test, get_or-replicate_default}
 use Rattle.run_laws.proofs.Frame.{member, note_member}
 use Rattle.recovery_laws.proofs.Events.{CanRestart, can_restart_is}
-use Rattle.joined_laws.specs.Numbers.{IsCounted, TopIsCounted, TopsAre, CountersAreDrawn}
+use Rattle.far_invariants.specs.Counters.{IsCounted, TopIsCounted, TopsAre, CountersAreDrawn}
 
 counted_more : (log more : List LogLine) (num : ℕ) → ((l : LogLine) → Among l log → Among l more) → IsCounted log num → IsCounted more num
 counted_more log more num f (inl e) = inl e

@@ -35,27 +35,27 @@ use Rattle.flight_laws.proofs.Handling.{IsInFlight}
 use Rattle.flight_laws.proofs.Lists.{get_or-replicate_default}
 use Rattle.run_laws.proofs.Keeps.{Keeps, Relies}
 use Rattle.run_laws.proofs.Seats.{Seats, owner}
-use Rattle.eviction_laws.specs.Drawn.{TagsAreDrawn}
-use Rattle.eviction_laws.specs.Evicting.{EvictionsAreSound, EvictionPacketIs, written_in}
-use Rattle.eviction_laws.specs.Needs.{Needs as EvictionNeeds, PacketNeeds, RoundNeeds, PacketsAreOnKey, ToldIsWritten, ItemIsWritten}
-use Rattle.eviction_laws.specs.Shown.{ShownIsKnown, IsKnown as IsKnownShown, WasAbsorbed, PacketIsKnown}
+use Rattle.far_invariants.specs.DrawnTags.{TagsAreDrawn}
+use Rattle.far_invariants.specs.Evictions.{EvictionsAreSound, EvictionPacketIs, written_in}
+use Rattle.far_invariants.specs.EvictionNeeds.{Needs as EvictionNeeds, PacketNeeds, RoundNeeds, PacketsAreOnKey, ToldIsWritten, ItemIsWritten}
+use Rattle.far_invariants.specs.Known.{ShownIsKnown, IsKnown as IsKnownShown, WasAbsorbed, PacketIsKnown}
 use Rattle.eviction_laws.proofs.Meaning.{absorbed_is_cached}
 use Rattle.eviction_laws.proofs.Needing.{held_fits, keys_met}
-use Rattle.recovery_laws.specs.Needs.{IsAbsorbedOn, IsKnown, IsSafe, IsAskedWell, IsGenuine, ShowsGenuine, IsReleasedSafely, begun_job, part_job, same_view_job, same_job, next_job, CompletesSafely, Owed, Needs as StopNeeds}
-use Rattle.recovery_laws.specs.Recoveries.{recovered_last}
-use Rattle.recovery_laws.specs.Stops.{Stops, Carried}
+use Rattle.far_invariants.specs.StopNeeds.{IsAbsorbedOn, IsKnown, IsSafe, IsAskedWell, IsGenuine, ShowsGenuine, IsReleasedSafely, begun_job, part_job, same_view_job, same_job, next_job, CompletesSafely, Owed, Needs as StopNeeds}
+use Rattle.far_invariants.specs.Recoveries.{recovered_last}
+use Rattle.far_invariants.specs.Stops.{Stops, Carried}
 use Rattle.recovery_laws.proofs.Laws.{restart_restores}
-use Rattle.recovery_laws.proofs.Records.{found_member}
-use Rattle.snapshot_laws.specs.Owed.{Needs as SnapshotNeeds, IsUnnumberedRead}
-use Rattle.snapshot_laws.specs.Serving.{SnapshotsInFlight}
-use Rattle.snapshot_laws.specs.Standing.{SnapshotsStand, IsAbsorbed, WasDrawn, view_at, IsInViews, IsLast, PacketStands}
-use Rattle.snapshot_laws.proofs.Completing.{event_covers}
-use Rattle.snapshot_laws.proofs.Meanings.{in_records, views_cover}
-use Rattle.snapshot_laws.proofs.Owing.{written_agree}
-use Rattle.joined_laws.specs.Flown.{Flown, AdmissionFlies}
-use Rattle.joined_laws.specs.Numbers.{CountersAreDrawn, StartsAreWritten}
-use Rattle.work_laws.specs.All.{IsSound}
-use Rattle.work_laws.specs.InFlight.{epoch_in, AdmissionFits}
+use Rattle.far_invariants.proofs.Records.{found_member}
+use Rattle.far_invariants.specs.SnapshotNeeds.{Needs as SnapshotNeeds, IsUnnumberedRead}
+use Rattle.far_invariants.specs.SnapshotFlights.{SnapshotsInFlight}
+use Rattle.far_invariants.specs.Snapshots.{SnapshotsStand, IsAbsorbed, WasDrawn, view_at, IsInViews, IsLast, PacketStands}
+use Rattle.flight_laws.proofs.SnapCompleting.{event_covers}
+use Rattle.flight_laws.proofs.SnapMeanings.{in_records, views_cover}
+use Rattle.flight_laws.proofs.SnapOwing.{written_agree}
+use Rattle.far_invariants.specs.Flown.{Flown, AdmissionFlies}
+use Rattle.far_invariants.specs.Counters.{CountersAreDrawn, StartsAreWritten}
+use Rattle.far_invariants.specs.Sound.{IsSound}
+use Rattle.far_invariants.specs.InFlight.{epoch_in, AdmissionFits}
 
 -- all that a run carries from state to state
 pub record Holds (plan : PlanView) (past : Past) (s : State) : Type 0 where
@@ -244,7 +244,7 @@ module _ (plan : PlanView) (past : Past) (s : State) (valid : IsPlan plan) (h : 
       go (inl x) = inl x
       go (inr x) = inr (views_cover s.controller.last.views key num x)
 
-  releases : (p : Packet) → PacketStands true s.running (Rattle.snapshot_laws.specs.Standing.gathering s.controller) past.starts p → IsReleasedSafely plan s p
+  releases : (p : Packet) → PacketStands true s.running (Rattle.far_invariants.specs.Snapshots.gathering s.controller) past.starts p → IsReleasedSafely plan s p
   releases (Release point) k = λ key num a b. safe key num a (le_trans b (k refl))
   releases _ k = tt
 

@@ -1,7 +1,5 @@
-pub mod Ceilings
 pub mod Counters
 pub mod Holding
-pub mod KeptRuns
 pub mod Numbers
 pub mod Runs
 pub mod Steady

@@ -28,7 +28,7 @@ use Rattle.far_model.specs.State.{State, client_at, now, noted}
 use Rattle.far_model.specs.View.{SlotView, slot_at, held_record, empty_slot}
 use Rattle.far_model.proofs.Members.{among_append}
 use Rattle.run_laws.proofs.Frame.{member}
-use Rattle.joined_laws.specs.Numbers.{StartsAreWritten}
+use Rattle.far_invariants.specs.Counters.{StartsAreWritten}
 
 -- ---- the log and the steps
 

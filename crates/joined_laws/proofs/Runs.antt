@@ -9,12 +9,12 @@ use Rattle.far_model.specs.Runs.{IsRun, run, is_quiet, is_finished}
 use Rattle.far_model.specs.State.{State, opening}
 use Rattle.far_model.specs.Work.{work_left}
 use Rattle.flight_laws.proofs.WithoutCache.{answers_in_kind}
-use Rattle.recovery_laws.specs.Needs.{Needs}
-use Rattle.recovery_laws.specs.Runs.{HoldsAlong}
-use Rattle.snapshot_laws.proofs.Completing.{no_job}
-use Rattle.work_laws.proofs.Steps.{sound_lowers, quiet_run, to_sound}
+use Rattle.far_invariants.specs.StopNeeds.{Needs}
+use Rattle.far_invariants.specs.StopRuns.{HoldsAlong}
+use Rattle.flight_laws.proofs.SnapCompleting.{no_job}
+use Rattle.flight_laws.proofs.Steps.{sound_lowers, quiet_run, to_sound}
 use Rattle.joined_laws.proofs.Holding.{Holds, flown, snapshots_needed, stops_need}
-use Rattle.snapshot_laws.specs.Owed.{Needs as SnapshotNeeds}
+use Rattle.far_invariants.specs.SnapshotNeeds.{Needs as SnapshotNeeds}
 use Rattle.joined_laws.proofs.Steps.{opening_holds, run_holds, step_holds}
 
 pub holds : (plan : PlanView) (events : List Event) → IsPlan plan → IsRun plan (opening plan) events → Holds plan (past_of plan events) (run plan (opening plan) events)

@@ -33,7 +33,7 @@ use Rattle.run_laws.proofs.Openings.{opening_keeps}
 use Rattle.run_laws.proofs.Scripts.{send_keeps}
 use Rattle.run_laws.proofs.Seats.{Seats, count_none}
 use Rattle.run_laws.proofs.Slots.{both}
-use Rattle.eviction_laws.specs.Unstopped.{is_stop}
+use Rattle.far_invariants.specs.Unstopped.{is_stop}
 use Rattle.eviction_laws.proofs.DrawnEvents.{event_draws}
 use Rattle.eviction_laws.proofs.DrawnRuns.{opening_draws}
 use Rattle.eviction_laws.proofs.EveryEvent.{event_sound}
@@ -41,20 +41,20 @@ use Rattle.eviction_laws.proofs.EvictingRuns.{StopsNot, event_lasts, opening_evi
 use Rattle.eviction_laws.proofs.KnownEvents.{event_knows}
 use Rattle.eviction_laws.proofs.KnownRuns.{opening_knows}
 use Rattle.eviction_laws.proofs.Steady.{turn_keeps}
-use Rattle.recovery_laws.specs.Recoveries.{recovered_last}
+use Rattle.far_invariants.specs.Recoveries.{recovered_last}
 use Rattle.recovery_laws.proofs.Events.{every_event}
 use Rattle.recovery_laws.proofs.Laws.{restart_restores}
 use Rattle.recovery_laws.proofs.Runs.{stops_open}
-use Rattle.snapshot_laws.proofs.Events.{event_stands, keepers_answer}
-use Rattle.snapshot_laws.proofs.Runs.{opening_stands}
-use Rattle.snapshot_laws.proofs.ServingEvents.{event_flies_with, opening_flies}
-use Rattle.joined_laws.specs.Flown.{Flown, AdmissionFlies}
+use Rattle.flight_laws.proofs.SnapEvents.{event_stands, keepers_answer}
+use Rattle.flight_laws.proofs.SnapRuns.{opening_stands}
+use Rattle.flight_laws.proofs.SnapServingEvents.{event_flies_with, opening_flies}
+use Rattle.far_invariants.specs.Flown.{Flown, AdmissionFlies}
 use Rattle.joined_laws.proofs.Counters.{counters_stay}
 use Rattle.joined_laws.proofs.Holding.{Holds, flown, outside, evictions_need, round_need, keys_need, slot_written, servers_written, own_counted, stops_need, snapshots_needed}
 use Rattle.joined_laws.proofs.Numbers.{starts_stay}
 use Rattle.joined_laws.proofs.Steady.{IsSteadyTurn, steady_messages, recovery_steady, wanted_steady}
 use Rattle.joined_laws.proofs.Stopped.{stop_keeps, restart_keeps, delivery_keeps, tick_keeps}
-use Rattle.work_laws.proofs.Steps.{sound_step, sound_opens, to_sound, from_sound}
+use Rattle.flight_laws.proofs.Steps.{sound_step, sound_opens, to_sound, from_sound}
 
 -- operations, and the slots of a switch that runs
 pub record Memory (plan : PlanView) (t : State) : Type 0 where

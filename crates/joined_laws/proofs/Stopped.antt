@@ -33,7 +33,7 @@ use Rattle.run_laws.proofs.Frame.{NotOn, member, off_shows_each, shown_lasts, Gr
 use Rattle.run_laws.proofs.Keeps.{AdmitsOther, IsDrawn, IsOpenOrAnswered, Relies, Keeps}
 use Rattle.run_laws.proofs.Snapshots.{release_calm}
 use Rattle.run_laws.proofs.Step.{next, NoteIs, IsNoSending, sent_before}
-use Rattle.eviction_laws.specs.Evicting.{EvictionsAreSound}
+use Rattle.far_invariants.specs.Evictions.{EvictionsAreSound}
 use Rattle.eviction_laws.proofs.Outside.{ask_calm, top_calm}
 use Rattle.eviction_laws.proofs.Rules.{slot_rests, rules_keep}
 use Rattle.eviction_laws.proofs.Steady.{one_steady, steady_bag, turn_keeps}

@@ -13,7 +13,7 @@ ghost use Rattle.far_base.specs.declared.packet.Packet.TheVariants.{Release};
 ghost use Rattle.far_base.specs.declared.party.Party.TheVariants.{Client};
 ghost use Rattle.far_base.specs.declared.log.Placed.{Placed};
 ghost use Rattle.far_base.specs.declared.record.Record.{Record};
-ghost use Rattle.far_laws.specs.Client.{KeepsClientOrder};
+ghost use Rattle.far_invariants.specs.ClientOrder.{KeepsClientOrder};
 ghost use Rattle.far_model.specs.Coherent.{IsCoherent};
 ghost use Rattle.far_model.specs.Events.{Keeping, all_listed, happens, happens_with, is_enabled};
 ghost use Rattle.far_model.specs.History.{IsHistory, IsLegal, IsLinearizable, KeepsRealTimeOrder};
@@ -29,20 +29,20 @@ ghost use Rattle.far_model.specs.Runs.{IsRun, is_finished, is_quiet, run};
 ghost use Rattle.far_model.specs.State.{State, client_at, opening};
 ghost use Rattle.far_model.specs.Work.{work_bound, work_left};
 ghost use Rattle.far_model.specs.Answered.{AllAnswered};
-ghost use Rattle.work_laws.specs.All.{IsSound};
-ghost use Rattle.work_laws.specs.Drawn.{NumbersAreDrawn};
-ghost use Rattle.work_laws.specs.Sizes.{DrawsWithSteps};
-ghost use Rattle.eviction_laws.specs.Drawn.{TagsAreDrawn};
-ghost use Rattle.eviction_laws.specs.Evicting.{EvictionsAreSound, RemovalIsStored};
-ghost use Rattle.eviction_laws.specs.Matching.{SlotsMatch};
-ghost use Rattle.eviction_laws.specs.Shown.{AbsorbedIsCached, ShownIsKnown};
-ghost use Rattle.recovery_laws.specs.Recoveries.{RecoversAfter, recovered_last};
-ghost use Rattle.recovery_laws.specs.Restarts.{IsRestored};
-ghost use Rattle.recovery_laws.specs.Rounds.{RoundInFlight};
-ghost use Rattle.recovery_laws.specs.Stops.{Outlives, Stops};
-ghost use Rattle.snapshot_laws.specs.Laws.{CompletedIsStart, CompletionIsSafe, MarksMatch, NoJobWhereQuiet, PartsAreStarts, PreservedIsAbove, ReleasedIsCovered};
-ghost use Rattle.snapshot_laws.specs.Serving.{SnapshotsInFlight};
-ghost use Rattle.snapshot_laws.specs.Standing.{SnapshotsStand};
+ghost use Rattle.far_invariants.specs.Sound.{IsSound};
+ghost use Rattle.far_invariants.specs.DrawnNumbers.{NumbersAreDrawn};
+ghost use Rattle.far_invariants.specs.Sizes.{DrawsWithSteps};
+ghost use Rattle.far_invariants.specs.DrawnTags.{TagsAreDrawn};
+ghost use Rattle.far_invariants.specs.Evictions.{EvictionsAreSound, RemovalIsStored};
+ghost use Rattle.far_invariants.specs.SlotMatch.{SlotsMatch};
+ghost use Rattle.far_invariants.specs.Known.{AbsorbedIsCached, ShownIsKnown};
+ghost use Rattle.far_invariants.specs.Recoveries.{RecoversAfter, recovered_last};
+ghost use Rattle.far_invariants.specs.Restarts.{IsRestored};
+ghost use Rattle.far_invariants.specs.RoundFlights.{RoundInFlight};
+ghost use Rattle.far_invariants.specs.Stops.{Outlives, Stops};
+ghost use Rattle.far_invariants.specs.SnapshotLaws.{CompletedIsStart, CompletionIsSafe, MarksMatch, NoJobWhereQuiet, PartsAreStarts, PreservedIsAbove, ReleasedIsCovered};
+ghost use Rattle.far_invariants.specs.SnapshotFlights.{SnapshotsInFlight};
+ghost use Rattle.far_invariants.specs.Snapshots.{SnapshotsStand};
 
 /// In every run of every plan, with its evictions, snapshots, stops and recoveries, the log is coherent, answers are
 /// current, numbers differ, replies are served, and what servers and latest slots have was written.
@@ -101,9 +101,7 @@ pub fn snapshots_are_cuts()
     ensures covers { (plan : PlanView) (events : List Event) → IsPlan plan → IsRun plan (opening plan) events → (e : Event) → is_enabled plan (run plan (opening plan) events) e ≡ true → CompletionIsSafe plan (run plan (opening plan) events) (happens plan (run plan (opening plan) events) e) }
     ensures parts { (plan : PlanView) (events : List Event) → IsPlan plan → IsRun plan (opening plan) events → PartsAreStarts plan (run plan (opening plan) events) (past_of plan events).starts }
     ensures marks { (plan : PlanView) (events : List Event) → IsPlan plan → IsRun plan (opening plan) events → MarksMatch plan (run plan (opening plan) events) (past_of plan events).starts }
-{
-    far_laws::remembered_past();
-}
+{}
 
 /// Each event lowers the work that is left, which is at most the bound at the opening; nothing can happen exactly where
 /// all is done, and then every operation of the plan is answered.

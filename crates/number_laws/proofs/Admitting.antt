@@ -26,7 +26,7 @@ use Rattle.run_laws.proofs.Keeps.{AdmitsOther}
 use Rattle.run_laws.proofs.Seats.{counted, count_removed, count_append, count_one, owner}
 use Rattle.run_laws.proofs.Slots.{both}
 use Rattle.run_laws.proofs.Arrivals.{none_left, state_within}
-use Rattle.number_laws.specs.Seated.{AdmissionStands, Seated}
+use Rattle.far_invariants.specs.Seated.{AdmissionStands, Seated}
 
 both_true : (a b : Bool) → a ≡ true → b ≡ true → (a && b) ≡ true
 both_true a b p q = ap (λ x. x && b) p ∙ q

@@ -41,8 +41,8 @@ use Rattle.run_laws.proofs.Scripts.{send_keeps}
 use Rattle.run_laws.proofs.Seats.{is_admission_packet}
 use Rattle.run_laws.proofs.Slots.{both}
 use Rattle.run_laws.proofs.Snapshots.{want_dropped_calm, wanted_calm, start_calm, begun_calm, part_calm, same_calm, snap_start_calm, snap_from_calm, snap_read_calm, release_calm}
-use Rattle.eviction_laws.specs.Evicting.{RemoveAnsIs, written_in}
-use Rattle.eviction_laws.specs.Needs as theirs
+use Rattle.far_invariants.specs.Evictions.{RemoveAnsIs, written_in}
+use Rattle.far_invariants.specs.EvictionNeeds as theirs
 use Rattle.eviction_laws.proofs.Beginning.{begun_keeps, key_held, victim_held}
 use Rattle.eviction_laws.proofs.Calming.{wanted_apart, begun_apart, part_apart, same_apart_job}
 use Rattle.eviction_laws.proofs.Looking.{peek_keeps}
@@ -51,7 +51,7 @@ use Rattle.eviction_laws.proofs.Removing.{remove_keeps}
 use Rattle.eviction_laws.proofs.Rules.{rules_keep, slot_rests}
 use Rattle.eviction_laws.proofs.Steady.{no_steady, one_steady, steady_bag, turn_keeps}
 use Rattle.eviction_laws.proofs.Storing.{more_at, written_at}
-use Rattle.number_laws.specs.Needs.{Needs}
+use Rattle.far_invariants.specs.SeatNeeds.{Needs}
 use Rattle.number_laws.specs.Numbers.{Numbers}
 use Rattle.number_laws.proofs.Controlling.{ack_keeps, want_keeps}
 use Rattle.number_laws.proofs.SeatEvents.{event_seated}

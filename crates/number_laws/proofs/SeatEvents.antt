@@ -37,14 +37,14 @@ use Rattle.run_laws.proofs.Deliveries.{runs_to}
 use Rattle.run_laws.proofs.Seats.{is_admission_packet, bag_grown, bag_taken}
 use Rattle.run_laws.proofs.Slots.{both}
 use Rattle.run_laws.proofs.Snapshots.{want_dropped_calm, wanted_calm, start_calm, begun_calm, part_calm, same_calm}
-use Rattle.eviction_laws.specs.Evicting.{Content, EvictionIs, EvictionsAre, RemoveAnsIs}
+use Rattle.far_invariants.specs.Evictions.{Content, EvictionIs, EvictionsAre, RemoveAnsIs}
 use Rattle.eviction_laws.proofs.Beginning.{key_held, victim_held}
 use Rattle.eviction_laws.proofs.Calming.{wanted_apart, begun_apart, part_apart, same_apart_job}
 use Rattle.eviction_laws.proofs.EveryEvent.{off_is}
 use Rattle.eviction_laws.proofs.Seating.{given_within, held_is}
 use Rattle.eviction_laws.proofs.Steady.{one_steady, steady_none}
-use Rattle.number_laws.specs.Needs.{SeatNeeds}
-use Rattle.number_laws.specs.Seated.{Seated}
+use Rattle.far_invariants.specs.SeatNeeds.{SeatNeeds}
+use Rattle.far_invariants.specs.Seated.{Seated}
 use Rattle.number_laws.proofs.Controlling.{ack_sits, state_moves, want_sits}
 use Rattle.number_laws.proofs.Moving.{client_sits, not_admission, pass_sits, passes_sit, send_sits, server_sits}
 use Rattle.number_laws.proofs.Admitting.{admit_sits}

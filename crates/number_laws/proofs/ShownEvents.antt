@@ -36,11 +36,11 @@ use Rattle.far_model.proofs.Members.{among_append, among_at, among_map_from, amo
 use Rattle.flight_laws.proofs.Lists.{by_test}
 use Rattle.run_laws.proofs.Frame.{member}
 use Rattle.run_laws.proofs.Keeps.{Keeps, Relies}
-use Rattle.eviction_laws.specs.Evicting.{EvictionPacketIs, written_in}
+use Rattle.far_invariants.specs.Evictions.{EvictionPacketIs, written_in}
 use Rattle.eviction_laws.proofs.Calming.{wanted_apart}
 use Rattle.eviction_laws.proofs.Steady.{is_steady}
-use Rattle.number_laws.specs.Needs.{Needs}
-use Rattle.number_laws.specs.Records.{AnswerIsWritten, IsRecord, ItemIs, Shown}
+use Rattle.far_invariants.specs.SeatNeeds.{Needs}
+use Rattle.far_invariants.specs.Records.{AnswerIsWritten, IsRecord, ItemIs, Shown}
 use Rattle.number_laws.proofs.Showing.{ShowsWell, takes_item}
 use Rattle.number_laws.proofs.Stopping.{IsSteadyOut, outs_steady, sends_steady}
 use Rattle.number_laws.proofs.Turning.{peek_still, plain_steady, stored_still, told_still, top_still}

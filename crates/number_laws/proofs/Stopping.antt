@@ -31,8 +31,8 @@ use Rattle.run_laws.proofs.Keeps.{IsDrawn, LineStands, IsTagged, Relies, Keeps}
 use Rattle.run_laws.proofs.Seats.{admits_no_tag, count_append, count_none}
 use Rattle.eviction_laws.proofs.Rules.{Rules, SlotGoes, rules_keep}
 use Rattle.eviction_laws.proofs.Steady.{is_steady, AreSteady, steady_none, turn_keeps}
-use Rattle.number_laws.specs.Needs.{IsRestorable}
-use Rattle.number_laws.specs.Seated.{AdmissionStands, Seated}
+use Rattle.far_invariants.specs.SeatNeeds.{IsRestorable}
+use Rattle.far_invariants.specs.Seated.{AdmissionStands, Seated}
 use Rattle.number_laws.proofs.Seating.{admission_free}
 
 -- ---- the counter, and whether the switch runs, may change where what is guarded by running holds anew

@@ -24,8 +24,8 @@ use Rattle.far_model.specs.View.{SlotView, SwitchView, slot_at, entry_place, ser
 use Rattle.far_model.proofs.Members.{among_at, among_append_right}
 use Rattle.flight_laws.proofs.Lists.{by_test}
 use Rattle.run_laws.proofs.Frame.{IsNote, log_cases, member, note_member}
-use Rattle.recovery_laws.specs.Needs.{IsAbsorbedOn, IsAskedWell, Needs, IsGenuine}
-use Rattle.recovery_laws.specs.Stops.{Outlives, IsNewest, IsDrawnJob, Stops, IsKeptAnswer, Carried}
+use Rattle.far_invariants.specs.StopNeeds.{IsAbsorbedOn, IsAskedWell, Needs, IsGenuine}
+use Rattle.far_invariants.specs.Stops.{Outlives, IsNewest, IsDrawnJob, Stops, IsKeptAnswer, Carried}
 use Rattle.recovery_laws.proofs.RoundSteps.{is_round_packet}
 use Rattle.recovery_laws.proofs.Steps.{Its, leaves_taken, Step, NumberArrives, IsQuiet, IsCalm, IsLight, IsUnkept, light_gone, unkept_newest, same_newest, same_preserved, same_above, unkept_answer, written_above}
 

@@ -27,8 +27,8 @@ use Rattle.far_model.specs.State.{State}
 use Rattle.far_model.proofs.Members.{among_map_from, each_among}
 use Rattle.flight_laws.proofs.Lists.{by_test}
 use Rattle.run_laws.proofs.Frame.{member}
-use Rattle.recovery_laws.specs.Needs.{IsAbsorbedOn, CompletesSafely, next_job, begun_job, part_job, same_job, same_view_job, IsGenuine}
-use Rattle.recovery_laws.specs.Stops.{Outlives, IsDrawnJob, Stops, Carried}
+use Rattle.far_invariants.specs.StopNeeds.{IsAbsorbedOn, CompletesSafely, next_job, begun_job, part_job, same_job, same_view_job, IsGenuine}
+use Rattle.far_invariants.specs.Stops.{Outlives, IsDrawnJob, Stops, Carried}
 use Rattle.recovery_laws.proofs.Steps.{Leaves, Step, HasArrived, IsQuiet, IsUnkept, unkept_newest, same_newest, same_preserved, same_above, quiet_numbered, quiet_absorbed, quiet_differ, unkept_answer}
 
 -- a note of the controller

@@ -1,4 +1,5 @@
 -- A want is admitted: the controller asks, the switch takes the key, and the controller hears of it.
+use Rattle.far_invariants.proofs.Keys.{same_key_refl}
 use Rattle.std.proofs.Common.{◌≡◌, ◌≢◌, ℕ, zero, suc, ◌<◌, ◌≤◌, ◌⊎◌, inl, inr, Bool, true, false, cond, List, [], ◌∷◌, ◌++◌, length, get_or, refl, sym, ap, ◌∙◌, subst, arith, eq-eqb, ne_eqb}
 use Rattle.std.specs.Prelude.{Option, Some, None, if◌then◌else◌, ◌&&◌, nat_eq}
 use Rattle.std.specs.List.{count_by}
@@ -24,7 +25,6 @@ use Rattle.far_model.proofs.Members.{among_append}
 use Rattle.run_laws.proofs.Controls.{Controls, slot_stays, controls_keep}
 use Rattle.run_laws.proofs.Keeps.{AdmitsOther, IsDrawn, Relies, Keeps}
 use Rattle.run_laws.proofs.Seats.{counted, count_removed, count_append, count_one, SameOwner, owner, Seats, SameSeats, seats_last, unchanged_slots}
-use Rattle.run_laws.proofs.Slots.{same_key_refl}
 
 -- ---- places that pass
 

@@ -1,4 +1,5 @@
 -- Admissions arrive: at the switch, which takes the key, and back at the controller.
+use Rattle.far_invariants.proofs.Keys.{key_cases}
 use Rattle.std.proofs.Common.{◌≡◌, ◌≢◌, ℕ, zero, suc, ◌<◌, ◌≤◌, ◌⊎◌, inl, inr, Bool, true, false, cond, List, [], ◌∷◌, ◌++◌, length, map, refl, sym, ap, ◌∙◌, subst, arith, eq-eqb, ne_eqb, eqb-true, lt-ltb}
 use Rattle.std.specs.Prelude.{Option, Some, None, if◌then◌else◌, ◌&&◌, nat_eq, nat_lt, slice_get}
 use Rattle.std.specs.List.{remove, count_by}
@@ -30,7 +31,7 @@ use Rattle.run_laws.proofs.Controls.{Controls, SlotSettles, slot_stays, controls
 use Rattle.run_laws.proofs.Deliveries.{counts_one}
 use Rattle.run_laws.proofs.Keeps.{AdmitsOther, IsDrawn, Relies, Keeps}
 use Rattle.run_laws.proofs.Seats.{counted, count_removed, count_append, count_one, owner, Seats, seats_last, unchanged_slots}
-use Rattle.run_laws.proofs.Slots.{key_cases, both, IsEntry, entry_is}
+use Rattle.run_laws.proofs.Slots.{both, IsEntry, entry_is}
 
 pub state_within : (slots : List SlotState) (i : ℕ) (key : List ℕ) (tag : ℕ) → state_at slots i ≡ Admitting key tag → i < length slots
 state_within [] i key tag h = absurd cc

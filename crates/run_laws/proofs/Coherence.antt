@@ -1,4 +1,5 @@
 -- What the invariants say of the log: it is coherent.
+use Rattle.far_invariants.proofs.Keys.{same_key_true}
 use Rattle.std.proofs.Common.{◌≡◌, ℕ, ◌≤◌, inl, inr, Bool, true, false, List, [], ◌∷◌, refl, sym, ap, ◌∙◌, subst, arith, leb-true, eqb-true}
 use Rattle.std.specs.Prelude.{Option, Some, None, if◌then◌else◌, ◌==◌, nat_le}
 use Rattle.std.proofs.lemmas.Option.{same_Some}
@@ -14,7 +15,6 @@ use Rattle.far_model.specs.Log.{At, first_told, or_later, sent_by, sending, sent
 use Rattle.far_model.specs.Members.{Among}
 use Rattle.far_model.specs.State.{State, line_at}
 use Rattle.run_laws.proofs.Keeps.{LineStands, AnswerStands, Keeps}
-use Rattle.run_laws.proofs.Slots.{same_key_true}
 
 -- ---- what is exposed is what the lines show
 

@@ -1,4 +1,5 @@
 -- What one step leaves as it was for all that is not its own.
+use Rattle.flight_laws.proofs.Lists.{each_map}
 use Rattle.std.proofs.Common.{◌≡◌, ◌≢◌, ℕ, ◌<◌, ◌≤◌, ◌⊎◌, inl, inr, Bool, true, List, [], ◌∷◌, map, refl, sym, ap, subst, arith, le_trans}
 use Rattle.std.specs.Prelude.{Option}
 use Rattle.far_base.specs.PlanView.{PlanView}
@@ -52,10 +53,6 @@ off_shows plan key n (Sent op line) h = tt
 off_shows plan key n (Numbered op num) h = tt
 off_shows plan key n (Answered op) h = tt
 off_shows plan key n _ h = tt
-
-each_map : {A : Type 0} (P Q : A → Type 0) (xs : List A) → ((x : A) → P x → Q x) → Each P xs → Each Q xs
-each_map P Q [] f h = tt
-each_map P Q (x ∷ xs) f h = (f x h.0, each_map P Q xs f h.1)
 
 pub off_shows_each : (plan : PlanView) (key : List ℕ) (n : ℕ) (notes : List LogEntry) → Each (NotOn plan key) notes → Each (ShowsNoMore plan key n) notes
 off_shows_each plan key n notes h = each_map (NotOn plan key) (ShowsNoMore plan key n) notes (off_shows plan key n) h

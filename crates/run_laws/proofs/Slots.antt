@@ -1,4 +1,5 @@
 -- The slots of a switch: whose a slot is, and what setting one changes.
+use Rattle.far_invariants.proofs.Keys.{same_key_true}
 use Rattle.std.proofs.Common.{◌≡◌, ◌≢◌, ℕ, zero, suc, ◌<◌, ◌⊎◌, inl, inr, Bool, true, false, List, [], ◌∷◌, length, refl, sym, ap, ◌∙◌, subst, arith}
 use Rattle.std.specs.Prelude.{Option, Some, None, ◌&&◌, if◌then◌else◌, get_or}
 use Rattle.std.specs.Cmp.Lexicographic.{bytes_decides}
@@ -8,20 +9,6 @@ use Rattle.far_model.specs.Log.{same_key}
 use Rattle.far_model.specs.Pass.{with_slot, with_taken}
 use Rattle.far_model.specs.View.{SlotView, SwitchView, slot_at, is_key_there, next_place, bound_place, is_slot_of, entry_if, entry_place, held_record, empty_slot}
 use Rattle.far_invariants.specs.Invariants.{entry, slot_if}
-
-pub same_key_true : (a b : List ℕ) → same_key a b ≡ true → a ≡ b
-same_key_true a b h = (bytes_decides a b).0 h
-
-pub same_key_refl : (a : List ℕ) → same_key a a ≡ true
-same_key_refl a = (bytes_decides a a).1 refl
-
--- two keys are the same or not
-pub key_cases : (a b : List ℕ) → (a ≡ b) ⊎ (a ≢ b)
-key_cases a b = go (same_key a b) refl
-  where
-    go : (t : Bool) → same_key a b ≡ t → (a ≡ b) ⊎ (a ≢ b)
-    go true e = inl (same_key_true a b e)
-    go false e = inr (λ p. let r : same_key a b ≡ true = (bytes_decides a b).1 p in absurd cc)
 
 pub there_is : (key : List ℕ) (o : Option (List ℕ)) → is_key_there key o ≡ true → o ≡ Some key
 there_is key None h = absurd cc

@@ -1,4 +1,5 @@
 -- A step keeps everything: what each kind of step still has to show.
+use Rattle.far_invariants.proofs.Keys.{key_cases}
 use Rattle.std.proofs.Common.{◌≡◌, ◌≢◌, ℕ, zero, suc, ◌≤◌, max, ◌⊎◌, inl, inr, Bool, true, false, List, [], ◌∷◌, ◌++◌, length, refl, sym, ap, ◌∙◌, subst, arith}
 use Rattle.std.specs.Prelude.{Option, Some, None}
 use Rattle.far_base.specs.PlanView.{PlanView}
@@ -22,7 +23,6 @@ use Rattle.far_model.specs.View.{SlotView, SwitchView}
 use Rattle.far_model.proofs.Members.{among_append, each_among}
 use Rattle.run_laws.proofs.Frame.{AboutMine, NotOn, IsNote, off_shows_each, log_cases, member, shown_lasts, shown_within, counted_on, Grows, written_lasts, line_is_lasts, relies_lasts, left_lasts, IsFresh, order_lasts}
 use Rattle.run_laws.proofs.Keeps.{SendsOp, AdmitsOther, IsDrawn, LineStands, LineIs, Relies, LeftIs, SlotIs, IsOpenOrAnswered, Keeps}
-use Rattle.run_laws.proofs.Slots.{key_cases}
 
 -- the message is of no operation of this step
 abbrev pub IsOther : (ℕ → Type 0) → Packet → Type 0

@@ -1,4 +1,4 @@
-use Rattle.joined_laws.proofs.KeptRuns.{kept_lowers, kept_quiet}
+use Rattle.flight_laws.proofs.KeptRuns.{kept_lowers, kept_quiet}
 use Rattle.joined_laws.proofs.kept_runs_come_to_their_end.Goals as goal
 
 pub returns-clause-lowers : goal.returns-clause-lowers

@@ -2,7 +2,7 @@ use Rattle.far_invariants.specs.Past.{past_of}
 use Rattle.far_model.specs.Runs.{run}
 use Rattle.far_model.specs.State.{opening}
 use Rattle.run_laws.proofs.Meanings.{log_sound}
-use Rattle.recovery_laws.specs.Recoveries.{recovered_last}
+use Rattle.far_invariants.specs.Recoveries.{recovered_last}
 use Rattle.recovery_laws.proofs.Laws.{absorbed_outlives, restart_restores, runs_recover}
 use Rattle.recovery_laws.proofs.Waiting.{in_flight}
 use Rattle.joined_laws.proofs.Runs.{holds, owed, stops_needed}

@@ -6,9 +6,9 @@ use Rattle.flight_laws.proofs.Bounds.{opening_within}
 use Rattle.run_laws.proofs.Finishing.{finished_answers}
 use Rattle.run_laws.proofs.SentOrLeft.{sent_or_left}
 use Rattle.joined_laws.proofs.Runs.{lowers, quiet_is_done}
-use Rattle.work_laws.proofs.Rooms.{bag_within_work}
-use Rattle.work_laws.proofs.Steps.{sound_works, to_sound}
-use Rattle.joined_laws.proofs.Ceilings.{drawn_by_some, draws_with_steps, steps_spend}
+use Rattle.flight_laws.proofs.Rooms.{bag_within_work}
+use Rattle.flight_laws.proofs.Steps.{sound_works, to_sound}
+use Rattle.flight_laws.proofs.Ceilings.{drawn_by_some, draws_with_steps, steps_spend}
 use Rattle.joined_laws.proofs.runs_come_to_their_end.Goals as goal
 
 pub returns-clause-lowers : goal.returns-clause-lowers

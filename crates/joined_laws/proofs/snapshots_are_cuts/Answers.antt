@@ -1,12 +1,13 @@
+use Rattle.flight_laws.proofs.Remembered.{starts_made}
 use Rattle.far_invariants.specs.Past.{past_of}
 use Rattle.far_model.specs.Runs.{run}
 use Rattle.far_model.specs.State.{opening}
-use Rattle.snapshot_laws.proofs.Meanings.{released_covered}
-use Rattle.snapshot_laws.proofs.Runs.{completed_is_start, one_snapshot}
-use Rattle.snapshot_laws.proofs.Completing.{no_job}
+use Rattle.flight_laws.proofs.SnapMeanings.{released_covered}
+use Rattle.flight_laws.proofs.SnapRuns.{completed_is_start, one_snapshot}
+use Rattle.flight_laws.proofs.SnapCompleting.{no_job}
 use Rattle.joined_laws.proofs.Runs.{holds}
-use Rattle.snapshot_laws.proofs.Completing.{event_covers}
-use Rattle.snapshot_laws.proofs.Meanings.{parts_are_starts, marks_match}
+use Rattle.flight_laws.proofs.SnapCompleting.{event_covers}
+use Rattle.flight_laws.proofs.SnapMeanings.{parts_are_starts, marks_match}
 use Rattle.joined_laws.proofs.Runs.{snapshots_owed}
 use Rattle.joined_laws.proofs.snapshots_are_cuts.Goals as goal
 
@@ -17,7 +18,7 @@ pub returns-clause-flies : goal.returns-clause-flies
 returns-clause-flies c plan events valid r = (holds plan events valid r).serving
 
 pub returns-clause-completed : goal.returns-clause-completed
-returns-clause-completed c plan events valid r = completed_is_start plan events r (holds plan events valid r).snapshots (c.remembered_past.ensures.starts plan events)
+returns-clause-completed c plan events valid r = completed_is_start plan events r (holds plan events valid r).snapshots (starts_made plan events)
 
 pub returns-clause-one : goal.returns-clause-one
 returns-clause-one c plan events valid r = λ id views other point own a b. one_snapshot plan events (holds plan events valid r).snapshots id views other point own a b

@@ -1,0 +1,34 @@
+//! What holds in every state of every run of every valid plan, whatever the keepers answer in kind and not above their
+//! ceiling.
+
+ghost use Rattle.std.specs.Prelude.{◌≡◌, ℕ, suc, ◌≤◌, true};
+ghost use Rattle.far_base.specs.PlanView.{PlanView};
+ghost use Rattle.far_base.specs.declared.event.Event.{Event};
+ghost use Rattle.far_model.specs.Events.{Keeping, happens_with, is_enabled};
+ghost use Rattle.far_model.specs.Replies.{AnswersInKind};
+ghost use Rattle.far_model.specs.Runs.{is_finished, is_quiet};
+ghost use Rattle.far_model.specs.State.{State};
+ghost use Rattle.far_model.specs.Work.{work_left};
+ghost use Rattle.far_invariants.specs.Addressed.{AreAddressed};
+ghost use Rattle.far_invariants.specs.Always.{AlwaysWith};
+ghost use Rattle.far_invariants.specs.DrawnNumbers.{NumbersAreDrawn};
+ghost use Rattle.far_invariants.specs.Room.{HasRoom};
+ghost use Rattle.far_invariants.specs.Sound.{IsSound};
+
+/// Everything that is under way has its packets on their way, and every message comes to a party that takes it.
+pub fn runs_are_sound()
+    ensures sound { AlwaysWith (λ plan ceiling s. IsSound plan s) }
+    ensures addressed { AlwaysWith (λ plan ceiling s. AreAddressed plan s) }
+{}
+
+/// No number that a run holds is above the count of the numbers drawn; and what a run draws and sends has room.
+pub fn runs_have_room()
+    ensures drawn { AlwaysWith (λ plan ceiling s. NumbersAreDrawn ceiling s) }
+    ensures room { AlwaysWith (λ plan ceiling s. HasRoom plan ceiling s) }
+{}
+
+/// Each event lowers the work that is left, and nothing can happen exactly where everything is done.
+pub fn runs_end()
+    ensures lowers { AlwaysWith (λ plan ceiling s. (e : Event) (k : Keeping) → AnswersInKind s e k → is_enabled plan s e ≡ true → suc (work_left plan (happens_with plan k s e)) ≤ work_left plan s) }
+    ensures quiet { AlwaysWith (λ plan ceiling s. is_quiet plan s ≡ is_finished plan s) }
+{}
