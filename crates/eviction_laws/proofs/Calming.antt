@@ -1,4 +1,5 @@
 -- Snapshots, hot keys, wants and admissions leave evictions as they are.
+use Rattle.far_invariants.proofs.Noted.{member}
 use Rattle.std.proofs.Common.{◌≡◌, ◌≢◌, ℕ, ◌⊎◌, inl, inr, Bool, true, false, List, [], ◌∷◌, ◌++◌, refl, sym, ap, ◌∙◌, arith}
 use Rattle.std.specs.Prelude.{Option, Some, None, if◌then◌else◌, ◌&&◌, nat_eq, nat_lt, is_some, slice_get, slice_set}
 use Rattle.std.specs.List.{remove}
@@ -31,7 +32,6 @@ use Rattle.far_model.proofs.Members.{among_at}
 use Rattle.flight_laws.proofs.Lists.{by_test}
 use Rattle.run_laws.proofs.Admissions.{first_some, free_is}
 use Rattle.run_laws.proofs.Calm.{is_plain, IsCalm}
-use Rattle.run_laws.proofs.Frame.{member}
 use Rattle.run_laws.proofs.Seats.{SameOwner}
 use Rattle.far_invariants.specs.Evictions.{Content, is_eviction_packet, is_eviction_of, EvictionPacketIs, EvictionsAre}
 use Rattle.eviction_laws.proofs.Leaving.{SameEvictionBag, evictions_taken, evictions_grown, passes_leave, one_no}

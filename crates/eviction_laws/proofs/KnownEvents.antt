@@ -1,4 +1,5 @@
 -- Every event keeps it that all that was shown is known, where the switch may stop too.
+use Rattle.far_invariants.proofs.Noted.{member}
 use Rattle.std.proofs.Common.{◌≡◌, ℕ, ◌+◌, Bool, true, false, not, List, [], ◌∷◌, refl, sym, ap, ◌∙◌, subst, arith, eqb-true}
 use Rattle.std.specs.Prelude.{Option, Some, None, if◌then◌else◌, ◌&&◌, is_some, slice_get, nat_eq}
 use Rattle.std.specs.List.{remove}
@@ -45,7 +46,6 @@ use Rattle.far_model.specs.Members.{Each}
 use Rattle.far_model.specs.State.{noted, now}
 use Rattle.far_model.specs.Snapshots.{Job}
 use Rattle.run_laws.proofs.Deliveries.{runs_to}
-use Rattle.run_laws.proofs.Frame.{member}
 use Rattle.far_invariants.specs.EvictionNeeds.{Needs, PacketsAreOnKey}
 use Rattle.eviction_laws.proofs.EveryEvent.{none_is, off_is}
 use Rattle.eviction_laws.proofs.Knowing.{NoteIsKnown, known_onward, view_onward, packet_onward, evicts_same, lines_known}

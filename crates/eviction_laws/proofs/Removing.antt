@@ -1,4 +1,5 @@
 -- A removal reaches the switch: the slot goes where it holds no more than was stored.
+use Rattle.far_invariants.proofs.Noted.{member}
 use Rattle.far_invariants.proofs.Keys.{key_cases}
 use Rattle.std.proofs.Common.{◌≡◌, ◌≢◌, ℕ, ◌+◌, ◌<◌, ◌≤◌, ◌⊎◌, inl, inr, Bool, true, false, cond, List, [], ◌∷◌, ◌++◌, length, refl, sym, ap, ◌∙◌, subst, arith, eq-eqb, ne_eqb, eqb-true}
 use Rattle.std.specs.Prelude.{Some, None, if◌then◌else◌, ◌&&◌, nat_eq, slice_get}
@@ -20,7 +21,6 @@ use Rattle.far_model.specs.Passes.{with_pass}
 use Rattle.far_model.specs.State.{State}
 use Rattle.far_model.specs.View.{SlotView, SwitchView, slot_at, entry_if, bound_place, is_slot_of, shown_body, empty_slot, is_taken, held_record}
 use Rattle.far_model.proofs.Members.{among_append, among_at, among_remove}
-use Rattle.run_laws.proofs.Frame.{member}
 use Rattle.run_laws.proofs.Keeps.{Keeps}
 use Rattle.run_laws.proofs.Requests.{reach_latest, reach_outdated}
 use Rattle.run_laws.proofs.Seats.{counted, count_removed, count_append, count_one, count_none, Seats, bag_taken, same_seats, seats_last, unchanged_slots}

@@ -14,6 +14,7 @@ pub mod InFlight
 pub mod Invariants
 pub mod Known
 pub mod Lasting
+pub mod Logged
 pub mod Notes
 pub mod Past
 pub mod Records

@@ -14,6 +14,7 @@ pub mod Frames
 pub mod Handling
 pub mod KeptRuns
 pub mod Lists
+pub mod Logged
 pub mod Moves
 pub mod Noting
 pub mod Numbers
@@ -32,6 +33,7 @@ pub mod Roomy
 pub mod RoundKeeps
 pub mod RoundTurns
 pub mod Ruling
+pub mod ScriptLaws
 pub mod Sends
 pub mod SnapBasics
 pub mod SnapCompleting

@@ -4,6 +4,8 @@
 ghost use Rattle.std.specs.Prelude.{◌≡◌, ℕ, suc, ◌≤◌, true};
 ghost use Rattle.far_base.specs.PlanView.{PlanView};
 ghost use Rattle.far_base.specs.declared.event.Event.{Event};
+ghost use Rattle.far_model.specs.Answered.{AllAnswered};
+ghost use Rattle.far_invariants.specs.Logged.{OperationsAreLogged};
 ghost use Rattle.far_model.specs.Events.{Keeping, happens_with, is_enabled};
 ghost use Rattle.far_model.specs.Replies.{AnswersInKind};
 ghost use Rattle.far_model.specs.Runs.{is_finished, is_quiet};
@@ -25,6 +27,13 @@ pub fn runs_are_sound()
 pub fn runs_have_room()
     ensures drawn { AlwaysWith (λ plan ceiling s. NumbersAreDrawn ceiling s) }
     ensures room { AlwaysWith (λ plan ceiling s. HasRoom plan ceiling s) }
+{}
+
+/// Moments do not fall, each client sends and waits for its own operations, and each operation of the plan was sent or is
+/// left to send, and was answered or is waited for; so where everything is done, every operation is answered.
+pub fn runs_are_logged()
+    ensures logged { AlwaysWith (λ plan ceiling s. OperationsAreLogged plan s) }
+    ensures answered { AlwaysWith (λ plan ceiling s. is_finished plan s ≡ true → AllAnswered plan s) }
 {}
 
 /// Each event lowers the work that is left, and nothing can happen exactly where everything is done.

@@ -1,4 +1,5 @@
 -- Where counters come from, over every event.
+use Rattle.far_invariants.proofs.Noted.{member, note_member}
 use Rattle.std.proofs.Common.{◌≡◌, ℕ, zero, suc, ◌+◌, ◌-◌, ◌<◌, ◌≤◌, ◌⊎◌, inl, inr, max, Bool, true, false, not, List, [], ◌∷◌, ◌++◌, length, refl, sym, ap, ◌∙◌, subst, arith}
 use Rattle.std.specs.Prelude.{Option, Some, None, if◌then◌else◌, ◌&&◌, ◌||◌, is_some, slice_get, slice_set, slice_index_or, nat_eq, nat_le, nat_lt}
 use Rattle.std.specs.List.{remove}
@@ -36,7 +37,6 @@ use Rattle.far_model.specs.State.{State, client_at, records_at, now}
 use Rattle.far_model.specs.View.{SlotView, SwitchView, slot_at, entry_place, is_taken, empty_slot, held_record}
 use Rattle.far_model.proofs.Members.{among_append, among_at, among_map_from, among_remove}
 use Rattle.flight_laws.proofs.Lists.{by_test, get_or-replicate_default}
-use Rattle.run_laws.proofs.Frame.{member, note_member}
 use Rattle.recovery_laws.proofs.Events.{CanRestart, can_restart_is}
 use Rattle.far_invariants.specs.Counters.{IsCounted, TopIsCounted, TopsAre, CountersAreDrawn}
 

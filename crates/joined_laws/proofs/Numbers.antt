@@ -1,4 +1,5 @@
 -- What logs keep, where counters come from, and what snapshots hold, over every event.
+use Rattle.far_invariants.proofs.Noted.{member}
 use Rattle.std.proofs.Common.{◌≡◌, ℕ, suc, ◌+◌, ◌≤◌, ◌⊎◌, inl, inr, Bool, true, false, List, [], ◌∷◌, map, length, get_or, refl, sym, ap, ◌∙◌, subst, arith, le_trans}
 use Rattle.std.specs.Prelude.{Option, Some, None, if◌then◌else◌, slice_get, nat_eq}
 use Rattle.std.specs.List.{remove}
@@ -27,7 +28,6 @@ use Rattle.far_model.specs.Snapshots.{view_records}
 use Rattle.far_model.specs.State.{State, client_at, now, noted}
 use Rattle.far_model.specs.View.{SlotView, slot_at, held_record, empty_slot}
 use Rattle.far_model.proofs.Members.{among_append}
-use Rattle.run_laws.proofs.Frame.{member}
 use Rattle.far_invariants.specs.Counters.{StartsAreWritten}
 
 -- ---- the log and the steps

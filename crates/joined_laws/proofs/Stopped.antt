@@ -1,4 +1,5 @@
 -- Operations and numbers while the switch is stopped, at a stop, and at a restart.
+use Rattle.far_invariants.proofs.Noted.{member}
 use Rattle.far_model.specs.Servers.{stored}
 use Rattle.far_base.specs.declared.record.Versioned.{Versioned}
 use Rattle.std.proofs.Common.{◌≡◌, ℕ, zero, suc, ◌+◌, ◌≤◌, ◌⊎◌, inl, inr, Bool, true, false, not, List, [], ◌∷◌, length, refl, sym, ap, ◌∙◌, subst, arith}
@@ -29,7 +30,7 @@ use Rattle.far_model.proofs.Members.{among_at, among_append, among_remove}
 use Rattle.run_laws.proofs.Calm.{rest_taken, calm_keeps}
 use Rattle.run_laws.proofs.Controls.{IsControlNote, Nobody, note_is, note_off, note_sends, note_about, notes_rise, each_to}
 use Rattle.run_laws.proofs.Deliveries.{delivered_keeps}
-use Rattle.run_laws.proofs.Frame.{NotOn, member, off_shows_each, shown_lasts, Grows, AboutMine, written_lasts, left_lasts}
+use Rattle.run_laws.proofs.Frame.{NotOn, off_shows_each, shown_lasts, Grows, AboutMine, written_lasts, left_lasts}
 use Rattle.run_laws.proofs.Keeps.{AdmitsOther, IsDrawn, IsOpenOrAnswered, Relies, Keeps}
 use Rattle.run_laws.proofs.Snapshots.{release_calm}
 use Rattle.run_laws.proofs.Step.{next, NoteIs, IsNoSending, sent_before}

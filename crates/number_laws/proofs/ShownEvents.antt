@@ -1,4 +1,5 @@
 -- Answers to reads and the item of an eviction were written: every event keeps it.
+use Rattle.far_invariants.proofs.Noted.{member}
 use Rattle.std.proofs.Common.{◌≡◌, ℕ, ◌+◌, ◌⊎◌, inl, inr, Bool, true, false, List, [], ◌∷◌, ◌++◌, length, refl, sym, ap, ◌∙◌, subst, arith, eqb-true}
 use Rattle.std.specs.Prelude.{Option, Some, None, ◌&&◌, not, if◌then◌else◌, is_some, nat_eq, slice_get}
 use Rattle.std.specs.List.{remove}
@@ -34,7 +35,6 @@ use Rattle.far_model.specs.State.{State, client_at, noted, now}
 use Rattle.far_model.specs.View.{SwitchView, empty_slot, entry_place, held_record, is_taken, server_of, shown_body, slot_at}
 use Rattle.far_model.proofs.Members.{among_append, among_at, among_map_from, among_remove, each_among}
 use Rattle.flight_laws.proofs.Lists.{by_test}
-use Rattle.run_laws.proofs.Frame.{member}
 use Rattle.run_laws.proofs.Keeps.{Keeps, Relies}
 use Rattle.far_invariants.specs.Evictions.{EvictionPacketIs, written_in}
 use Rattle.eviction_laws.proofs.Calming.{wanted_apart}

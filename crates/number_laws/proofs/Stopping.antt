@@ -1,4 +1,5 @@
 -- A stop, the beginning of a recovery, and a restart: what numbers and slots are afterwards.
+use Rattle.far_invariants.proofs.Noted.{IsNote, log_cases}
 use Rattle.std.proofs.Common.{◌≡◌, ℕ, zero, suc, ◌+◌, ◌≤◌, ◌⊎◌, inl, inr, Bool, true, false, List, [], ◌∷◌, ◌++◌, length, replicate, refl, sym, ap, ◌∙◌, subst, arith, ne_eqb}
 use Rattle.std.specs.Prelude.{Some, None, ◌&&◌, nat_eq}
 use Rattle.std.proofs.lemmas.List.{length-replicate}
@@ -26,7 +27,7 @@ use Rattle.far_model.specs.State.{State, line_at, now}
 use Rattle.far_model.specs.View.{SlotView, SwitchView, slot_at, empty_slot, bound_place, entry_if, opening_view}
 use Rattle.far_model.proofs.Members.{among_append, among_map_from, each_among}
 use Rattle.run_laws.proofs.Controls.{IsControlNote, each_to, note_off}
-use Rattle.run_laws.proofs.Frame.{IsNote, NotOn, log_cases, off_shows_each, shown_lasts}
+use Rattle.run_laws.proofs.Frame.{NotOn, off_shows_each, shown_lasts}
 use Rattle.run_laws.proofs.Keeps.{IsDrawn, LineStands, IsTagged, Relies, Keeps}
 use Rattle.run_laws.proofs.Seats.{admits_no_tag, count_append, count_none}
 use Rattle.eviction_laws.proofs.Rules.{Rules, SlotGoes, rules_keep}

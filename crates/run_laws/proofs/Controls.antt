@@ -1,4 +1,5 @@
 -- Steps that touch no operation: they keep everything where slots, servers and clients have what they had.
+use Rattle.far_invariants.proofs.Noted.{member}
 use Rattle.far_base.specs.declared.record.Versioned.{Versioned}
 use Rattle.std.proofs.Common.{◌≡◌, ℕ, ◌≤◌, max, ◌⊎◌, inl, inr, true, false, List, [], ◌∷◌, length, sym, ap, ◌∙◌, subst, arith}
 use Rattle.std.specs.Prelude.{Some}
@@ -12,7 +13,7 @@ use Rattle.far_invariants.specs.Invariants.{look, entry, reach, reach_by, IsWrit
 use Rattle.far_model.specs.Members.{Among, Each, Pairs}
 use Rattle.far_model.specs.State.{State, client_at, now, noted}
 use Rattle.far_model.specs.View.{SlotView}
-use Rattle.run_laws.proofs.Frame.{counted_on, AboutMine, NotOn, off_shows_each, member, shown_lasts, shown_within, Grows, written_lasts, left_lasts}
+use Rattle.run_laws.proofs.Frame.{counted_on, AboutMine, NotOn, off_shows_each, shown_lasts, shown_within, Grows, written_lasts, left_lasts}
 use Rattle.run_laws.proofs.Keeps.{AdmitsOther, IsDrawn, Relies, IsOpenOrAnswered, Keeps}
 use Rattle.run_laws.proofs.Step.{IsOther, NoteIs, IsNoSending, sent_before, next}
 

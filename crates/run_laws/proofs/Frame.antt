@@ -1,4 +1,5 @@
 -- What one step leaves as it was for all that is not its own.
+use Rattle.far_invariants.proofs.Noted.{IsNote, member, note_member, log_cases}
 use Rattle.flight_laws.proofs.Lists.{each_map}
 use Rattle.std.proofs.Common.{◌≡◌, ◌≢◌, ℕ, ◌<◌, ◌≤◌, ◌⊎◌, inl, inr, Bool, true, List, [], ◌∷◌, map, refl, sym, ap, subst, arith, le_trans}
 use Rattle.std.specs.Prelude.{Option}
@@ -59,27 +60,9 @@ off_shows_each plan key n notes h = each_map (NotOn plan key) (ShowsNoMore plan 
 
 -- ---- the log
 
-pub record IsNote (notes : List LogEntry) (moment : ℕ) (l : LogLine) : Type 0 where
-  pub entry : LogEntry
-  pub among : Among entry notes
-  pub is : l ≡ line_at moment entry
-
 module _ (s t : State) (notes : List LogEntry) (e : t.log ≡ noted s notes) where
-  pub member : (l : LogLine) → Among l s.log → Among l t.log
-  member l h = subst (λ w. Among l w) (sym e) (among_append_left l s.log (map (line_at (now s)) notes) h)
-
-  pub note_member : (entry : LogEntry) → Among entry notes → Among (line_at (now s) entry) t.log
-  note_member entry h = subst (λ w. Among (line_at (now s) entry) w) (sym e) (among_append_right (line_at (now s) entry) s.log (map (line_at (now s)) notes) (among_map (line_at (now s)) entry notes h))
-
-  pub log_cases : (l : LogLine) → Among l t.log → Among l s.log ⊎ IsNote notes (now s) l
-  log_cases l h = go (among_append l s.log (map (line_at (now s)) notes) (subst (λ w. Among l w) e h))
-    where
-      go : Among l s.log ⊎ Among l (map (line_at (now s)) notes) → Among l s.log ⊎ IsNote notes (now s) l
-      go (inl k) = inl k
-      go (inr k) = let p = among_map_from (line_at (now s)) l notes k in inr (record { entry = p.0; among = p.1; is = p.2 })
-
   pub absent_lasts : (says : LogEntry → Type 0) → Absent says s.log → Each (λ n. says n → ⊥) notes → Absent says t.log
-  absent_lasts says h k = λ l a b. go l b (log_cases l a)
+  absent_lasts says h k = λ l a b. go l b (log_cases s t notes e l a)
     where
       go : (l : LogLine) → says l.entry → Among l s.log ⊎ IsNote notes (now s) l → ⊥
       go l b (inl a) = h l a b
@@ -87,14 +70,14 @@ module _ (s t : State) (notes : List LogEntry) (e : t.log ≡ noted s notes) whe
 
   -- what was shown up to a moment before this step stays
   pub shown_by_lasts : (plan : PlanView) (key : List ℕ) (moment n : ℕ) → moment ≤ s.steps → ExposedAtMostBy plan s.log key moment n → ExposedAtMostBy plan t.log key moment n
-  shown_by_lasts plan key moment n b h = λ at op num body near a k before. go at op num body near k before (log_cases _ a)
+  shown_by_lasts plan key moment n b h = λ at op num body near a k before. go at op num body near k before (log_cases s t notes e _ a)
     where
       go : (at op num : ℕ) (body : Option (List ℕ)) (near : Bool) → (line_of plan.ops op).key ≡ key → at ≤ moment → Among (line_at at (Emitted op num body near)) s.log ⊎ IsNote notes (now s) (line_at at (Emitted op num body near)) → num ≤ n
       go at op num body near k before (inl a) = h at op num body near a k before
       go at op num body near k before (inr m) = let late : at ≡ now s = ap (λ (w : LogLine). w.moment) m.is in absurd (omega arith)
 
   pub shown_lasts : (plan : PlanView) (key : List ℕ) (n : ℕ) → ExposedAtMost plan s.log key n → Each (ShowsNoMore plan key n) notes → ExposedAtMost plan t.log key n
-  shown_lasts plan key n h k = λ at op num body near a on. go at op num body near on (log_cases _ a)
+  shown_lasts plan key n h k = λ at op num body near a on. go at op num body near on (log_cases s t notes e _ a)
     where
       go : (at op num : ℕ) (body : Option (List ℕ)) (near : Bool) → (line_of plan.ops op).key ≡ key → Among (line_at at (Emitted op num body near)) s.log ⊎ IsNote notes (now s) (line_at at (Emitted op num body near)) → num ≤ n
       go at op num body near on (inl a) = h at op num body near a on

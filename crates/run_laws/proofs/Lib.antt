@@ -16,7 +16,6 @@ pub mod Openings
 pub mod Requests
 pub mod Scripts
 pub mod Seats
-pub mod SentOrLeft
 pub mod Slots
 pub mod Snapshots
 pub mod Step

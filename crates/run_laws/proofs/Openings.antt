@@ -1,4 +1,5 @@
 -- The opening state keeps everything.
+use Rattle.flight_laws.proofs.ScriptLaws.{IsInScript, in_script, opens_client}
 use Rattle.far_base.specs.declared.record.Versioned.{Versioned}
 use Rattle.std.proofs.Common.{◌≡◌, ◌≢◌, ℕ, zero, suc, ◌+◌, ◌-◌, ◌⊎◌, inl, inr, Bool, true, false, List, [], ◌∷◌, length, replicate, get_or, refl, sym, ap, ◌∙◌, subst, arith, eqb-true}
 use Rattle.std.specs.Prelude.{Some, None, if◌then◌else◌, nat_eq}
@@ -32,24 +33,6 @@ no_entry plan key = ap (λ o. slot_if (opening plan).switch (entry_if key (openi
 
 -- ---- scripts
 
-pub record IsInScript (n : ℕ) (lines : List OpLine) (client op : ℕ) : Type 0 where
-  pub place : ℕ
-  pub is : op ≡ n + place
-  pub of_client : (get_or lines place no_line).client ≡ client
-
-in_script : (n : ℕ) (lines : List OpLine) (client op : ℕ) → Among op (script_from n lines client) → IsInScript n lines client op
-in_script n [] client op a = absurd a
-in_script n (line ∷ lines) client op a = go (λ b. in_script (suc n) lines client op b) (nat_eq line.client client) refl a
-  where
-    later : IsInScript (suc n) lines client op → IsInScript n (line ∷ lines) client op
-    later h = record { place = suc h.place; is = let e = h.is in omega (arith, e); of_client = h.of_client }
-
-    go : (Among op (script_from (suc n) lines client) → IsInScript (suc n) lines client op) → (b : Bool) → nat_eq line.client client ≡ b
-        → Among op (if b then n ∷ script_from (suc n) lines client else script_from (suc n) lines client) → IsInScript n (line ∷ lines) client op
-    go f true e (inl same) = record { place = 0; is = same ∙ omega arith; of_client = eqb-true line.client client e }
-    go f true e (inr b) = later (f b)
-    go f false e b = later (f b)
-
 script_apart : (n : ℕ) (lines : List OpLine) (client : ℕ) → Pairs (λ (a b : ℕ). a ≢ b) (script_from n lines client)
 script_apart n [] client = tt
 script_apart n (line ∷ lines) client = go (script_apart (suc n) lines client) (nat_eq line.client client)
@@ -59,18 +42,8 @@ script_apart n (line ∷ lines) client = go (script_apart (suc n) lines client) 
     go h false = h
 
 module _ (plan : PlanView) where
-  opens_client : (c n d : ℕ) → (get_or (clients_from plan.ops n d) c nobody ≡ opening_client plan.ops (n + c)) ⊎ (get_or (clients_from plan.ops n d) c nobody ≡ nobody)
-  opens_client c n zero = inr refl
-  opens_client zero n (suc d) = inl (ap (λ m. opening_client plan.ops m) (omega arith))
-  opens_client (suc c) n (suc d) = go (opens_client c (suc n) d)
-    where
-      go : (get_or (clients_from plan.ops (suc n) d) c nobody ≡ opening_client plan.ops (suc n + c)) ⊎ (get_or (clients_from plan.ops (suc n) d) c nobody ≡ nobody)
-          → (get_or (clients_from plan.ops (suc n) d) c nobody ≡ opening_client plan.ops (n + suc c)) ⊎ (get_or (clients_from plan.ops (suc n) d) c nobody ≡ nobody)
-      go (inl e) = inl (e ∙ ap (λ m. opening_client plan.ops m) (omega arith))
-      go (inr e) = inr e
-
   opening_left : (c : ℕ) → LeftIs plan (opening plan) c
-  opening_left c = go (opens_client c 0 plan.config.clients)
+  opening_left c = go (opens_client plan c 0 plan.config.clients)
     where
       of_script : (left : List ℕ) → left ≡ script plan.ops c → (client_at (opening plan) c).left ≡ left → LeftIs plan (opening plan) c
       of_script left is e = record {

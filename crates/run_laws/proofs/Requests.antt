@@ -1,4 +1,5 @@
 -- Requests to the switch: reads and writes.
+use Rattle.far_invariants.proofs.Noted.{member, note_member}
 use Rattle.far_model.specs.Coherent.{IsOwnNumber}
 use Rattle.std.proofs.Common.{◌≡◌, ◌≢◌, ℕ, ◌+◌, ◌<◌, ◌≤◌, max, inl, inr, Bool, true, false, List, [], ◌∷◌, refl, sym, ap, ◌∙◌, subst, arith, le_trans}
 use Rattle.std.specs.Prelude.{Option, Some, None, if◌then◌else◌}
@@ -17,7 +18,7 @@ use Rattle.far_model.specs.Members.{Among, Each}
 use Rattle.far_model.specs.Pass.{Passed, sent_to, read_passes, write_passes, numbered, absorbing, touched, told_hot, grows_hot, hot_cell, part_of, with_slot, with_taken}
 use Rattle.far_model.specs.State.{State, client_at, line_at, now, noted, stepped}
 use Rattle.far_model.specs.View.{SlotView, SwitchView, slot_at, entry_place, is_slot_of, is_taken, server_of, held_record}
-use Rattle.run_laws.proofs.Frame.{NotOn, off_shows_each, member, note_member, absent_lasts, shown_lasts, shown_by_lasts, shown_within, shown_shown_by, Grows, serves_lasts}
+use Rattle.run_laws.proofs.Frame.{NotOn, off_shows_each, absent_lasts, shown_lasts, shown_by_lasts, shown_within, shown_shown_by, Grows, serves_lasts}
 use Rattle.run_laws.proofs.Keeps.{EmitsOp, AnswersOp, IsSent, IsDrawn, ServesOp, ReadIsAsked, WriteIsAsked, IsBeingAnswered, Keeps, part_relies, part_admits}
 use Rattle.run_laws.proofs.Slots.{IsEntry, SetsSlot, entry_is, entry_set, entry_kept, taken_sets, with_slot_sets}
 use Rattle.run_laws.proofs.Step.{AreOthers, GoesWell, AdmitsNone, PassesFor, passed_state, pass_keeps, shown_counted}

@@ -1,4 +1,5 @@
 -- What clients do: they send their operations and get the answers.
+use Rattle.far_invariants.proofs.Noted.{IsNote, member, note_member, log_cases}
 use Rattle.std.proofs.Common.{◌≡◌, ◌≢◌, ℕ, zero, suc, ◌<◌, max, ◌⊎◌, inl, inr, Bool, true, false, List, [], ◌∷◌, ◌++◌, length, refl, sym, ap, ◌∙◌, subst, arith, le_trans}
 use Rattle.std.specs.Prelude.{Option, Some, None, if◌then◌else◌, get_or, set, not, ◌&&◌, is_some, IsTrue, nat_lt}
 use Rattle.std.proofs.lemmas.Bool.Decides.{eqb_tells}
@@ -24,7 +25,7 @@ use Rattle.far_model.specs.Log.{is_read}
 use Rattle.far_model.specs.Members.{Among, Each, Pairs}
 use Rattle.far_model.specs.State.{State, client_at, line_at, now, stepped, nobody}
 use Rattle.far_model.proofs.Members.{among_append, each_among}
-use Rattle.run_laws.proofs.Frame.{counted_on, sends_names, numbers_names, emits_names, answers_names, AboutMine, NotOn, off_shows_each, IsNote, absent_lasts, member, note_member, log_cases, shown_lasts, shown_within, Grows, written_lasts, answering_lasts, left_lasts, not_mine}
+use Rattle.run_laws.proofs.Frame.{counted_on, sends_names, numbers_names, emits_names, answers_names, AboutMine, NotOn, off_shows_each, absent_lasts, shown_lasts, shown_within, Grows, written_lasts, answering_lasts, left_lasts, not_mine}
 use Rattle.run_laws.proofs.Keeps.{SendsOp, NumbersOp, EmitsOp, AnswersOp, Absent, IsSent, AdmitsOther, IsDrawn, ServesOp, IsBeingAnswered, Relies, LeftIs, WasAnswered, IsOpenOrAnswered, Keeps}
 use Rattle.run_laws.proofs.Requests.{Its}
 use Rattle.run_laws.proofs.Slots.{both}

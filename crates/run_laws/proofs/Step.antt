@@ -1,4 +1,5 @@
 -- A step keeps everything: what each kind of step still has to show.
+use Rattle.far_invariants.proofs.Noted.{IsNote, member, log_cases}
 use Rattle.far_invariants.proofs.Keys.{key_cases}
 use Rattle.std.proofs.Common.{◌≡◌, ◌≢◌, ℕ, zero, suc, ◌≤◌, max, ◌⊎◌, inl, inr, Bool, true, false, List, [], ◌∷◌, ◌++◌, length, refl, sym, ap, ◌∙◌, subst, arith}
 use Rattle.std.specs.Prelude.{Option, Some, None}
@@ -21,7 +22,7 @@ use Rattle.far_model.specs.Passes.{with_pass}
 use Rattle.far_model.specs.State.{State, client_at, line_at, now, noted, stepped}
 use Rattle.far_model.specs.View.{SlotView, SwitchView}
 use Rattle.far_model.proofs.Members.{among_append, each_among}
-use Rattle.run_laws.proofs.Frame.{AboutMine, NotOn, IsNote, off_shows_each, log_cases, member, shown_lasts, shown_within, counted_on, Grows, written_lasts, line_is_lasts, relies_lasts, left_lasts, IsFresh, order_lasts}
+use Rattle.run_laws.proofs.Frame.{AboutMine, NotOn, off_shows_each, shown_lasts, shown_within, counted_on, Grows, written_lasts, line_is_lasts, relies_lasts, left_lasts, IsFresh, order_lasts}
 use Rattle.run_laws.proofs.Keeps.{SendsOp, AdmitsOther, IsDrawn, LineStands, LineIs, Relies, LeftIs, SlotIs, IsOpenOrAnswered, Keeps}
 
 -- the message is of no operation of this step

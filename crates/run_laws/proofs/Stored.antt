@@ -1,4 +1,5 @@
 -- Forwards at servers: records only get greater numbers, and replies say what is there.
+use Rattle.far_invariants.proofs.Noted.{member}
 use Rattle.far_invariants.proofs.Puts.{AfterKeep, IsPut, IsLeft, after_keep, kept_other}
 use Rattle.far_invariants.proofs.Keys.{same_key_true, same_key_refl, key_cases}
 use Rattle.far_base.specs.declared.record.Versioned.{Versioned}
@@ -22,7 +23,7 @@ use Rattle.far_model.specs.Servers.{record_of, server_reply, stored}
 use Rattle.far_model.specs.State.{State, client_at, records_at, now, stepped}
 use Rattle.far_model.specs.View.{SlotView, server_of}
 use Rattle.far_model.proofs.Members.{among_append}
-use Rattle.run_laws.proofs.Frame.{counted_on, absent_lasts, member, shown_lasts, shown_by_lasts, shown_within, Grows, serves_lasts, tagged_lasts, written_lasts, left_lasts, past}
+use Rattle.run_laws.proofs.Frame.{counted_on, absent_lasts, shown_lasts, shown_by_lasts, shown_within, Grows, serves_lasts, tagged_lasts, written_lasts, left_lasts, past}
 use Rattle.run_laws.proofs.Keeps.{EmitsOp, AnswersOp, AdmitsOther, IsDrawn, ServesOp, ReadIsForwarded, WriteIsForwarded, Relies, IsOpenOrAnswered, Keeps}
 use Rattle.run_laws.proofs.Requests.{Its}
 use Rattle.run_laws.proofs.Step.{IsOther, AreOthers, sent_before, next}
