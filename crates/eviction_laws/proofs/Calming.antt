@@ -30,9 +30,9 @@ use Rattle.far_model.specs.State.{State}
 use Rattle.far_model.specs.View.{SlotView, slot_at, empty_slot}
 use Rattle.far_model.proofs.Members.{among_at}
 use Rattle.flight_laws.proofs.Lists.{by_test}
-use Rattle.run_laws.proofs.Admissions.{first_some, free_is}
-use Rattle.run_laws.proofs.Calm.{is_plain, IsCalm}
-use Rattle.run_laws.proofs.Seats.{SameOwner}
+use Rattle.record_laws.proofs.Admissions.{first_some, free_is}
+use Rattle.record_laws.proofs.Calm.{is_plain, IsCalm}
+use Rattle.record_laws.proofs.Seats.{SameOwner}
 use Rattle.far_invariants.specs.Evictions.{Content, is_eviction_packet, is_eviction_of, EvictionPacketIs, EvictionsAre}
 use Rattle.eviction_laws.proofs.Leaving.{SameEvictionBag, evictions_taken, evictions_grown, passes_leave, one_no}
 use Rattle.eviction_laws.proofs.Looking.{there_same}
@@ -248,7 +248,7 @@ module _ (plan : PlanView) {c : Content} (s : State) (need : Needs plan c s) (v 
       others j ne = get_or-set_other s.controller.slots i j (acked_state (state_at s.controller.slots i)) Free ne
 
       now_held : state_at (slice_set s.controller.slots i (acked_state (state_at s.controller.slots i))) i ≡ Held its.0 tag
-      now_held = get_or-set_same s.controller.slots i (acked_state (state_at s.controller.slots i)) Free (Rattle.run_laws.proofs.Arrivals.state_within s.controller.slots i its.0 tag its.1) ∙ ap acked_state its.1
+      now_held = get_or-set_same s.controller.slots i (acked_state (state_at s.controller.slots i)) Free (Rattle.record_laws.proofs.Arrivals.state_within s.controller.slots i its.0 tag its.1) ∙ ap acked_state its.1
 
       go : (b : Bool) → EvictionsAre plan c (controller_turn s (remove s.bag n) (if b then record { state = with_state s.controller i (acked_state (state_at s.controller.slots i)); out = []; notes = Admitted i (key_in (state_at s.controller.slots i)) tag ∷ [] } else idle s.controller))
       go true = leaves (record { state = with_state s.controller i (acked_state (state_at s.controller.slots i)); out = []; notes = Admitted i (key_in (state_at s.controller.slots i)) tag ∷ [] }) refl refl refl refl refl

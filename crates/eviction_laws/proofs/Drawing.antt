@@ -30,7 +30,7 @@ use Rattle.far_model.specs.State.{State}
 use Rattle.far_model.specs.View.{SwitchView, slot_at, entry_place, is_taken, server_of, shown_body, empty_slot, held_record}
 use Rattle.far_model.proofs.Members.{among_append, among_append_left, among_map_from, each_among}
 use Rattle.flight_laws.proofs.Lists.{by_test, get_or-replicate_default}
-use Rattle.run_laws.proofs.Slots.{IsEntry, entry_is, both, there_is}
+use Rattle.record_laws.proofs.Slots.{IsEntry, entry_is, both, there_is}
 use Rattle.far_invariants.specs.Evictions.{written_in}
 use Rattle.far_invariants.specs.DrawnTags.{WasDrawn, WasDrawnAt, TagIsDrawn, TagsAreDrawn, SlotTagsAreDrawn, TagsAreOnes}
 use Rattle.far_invariants.specs.Evictions.{EvictionIs, EvictionsAreSound}

@@ -27,10 +27,10 @@ use Rattle.far_model.specs.Snapshots.{Job, view_records, view_in}
 use Rattle.far_model.specs.State.{State, client_at, nobody, line_at, now}
 use Rattle.far_model.specs.View.{SlotView, SwitchView, slot_at, held_record}
 use Rattle.far_model.proofs.Members.{among_append, among_map_from, each_among}
-use Rattle.run_laws.proofs.Admissions.{nat_cases}
-use Rattle.run_laws.proofs.Controls.{IsControlNote}
-use Rattle.run_laws.proofs.Slots.{SetsSlot}
-use Rattle.run_laws.proofs.Step.{passed_state}
+use Rattle.record_laws.proofs.Admissions.{nat_cases}
+use Rattle.record_laws.proofs.Controls.{IsControlNote}
+use Rattle.record_laws.proofs.Slots.{SetsSlot}
+use Rattle.record_laws.proofs.Step.{passed_state}
 use Rattle.far_invariants.specs.Known.{IsKnown, RecordIsKnown, ViewIsKnown, PacketIsKnown, ShownIsKnown}
 use Rattle.far_invariants.specs.Evictions.{Onward}
 use Rattle.flight_laws.proofs.Lists.{by_test}

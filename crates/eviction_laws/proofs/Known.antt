@@ -32,8 +32,8 @@ use Rattle.far_model.specs.State.{State, client_at, records_at, now}
 use Rattle.far_model.specs.View.{SlotView, SwitchView, slot_at, entry_place, is_taken, server_of, held_record}
 use Rattle.far_model.proofs.Members.{among_at, among_remove}
 use Rattle.flight_laws.proofs.Lists.{by_test}
-use Rattle.run_laws.proofs.Slots.{IsEntry, entry_is, both, there_is, with_slot_sets, taken_sets, SetsSlot}
-use Rattle.run_laws.proofs.Step.{passed_state}
+use Rattle.record_laws.proofs.Slots.{IsEntry, entry_is, both, there_is, with_slot_sets, taken_sets, SetsSlot}
+use Rattle.record_laws.proofs.Step.{passed_state}
 use Rattle.far_invariants.specs.EvictionNeeds.{PacketsAreOnKey}
 use Rattle.far_invariants.specs.Known.{IsKnown, RecordIsKnown, ViewIsKnown, PacketIsKnown, ShownIsKnown}
 use Rattle.eviction_laws.proofs.Knowing.{known_onward, view_onward, OutIsKnown, pass_onward, pass_knows, slots_same, slots_set, client_knows, served_onward, server_knows, part_known}

@@ -23,7 +23,7 @@ use Rattle.far_model.specs.Parties.{Turn}
 use Rattle.far_model.specs.State.{State, opening}
 use Rattle.far_model.proofs.Members.{among_at}
 use Rattle.flight_laws.proofs.Lists.{get_or-replicate_default}
-use Rattle.run_laws.proofs.Slots.{both}
+use Rattle.record_laws.proofs.Slots.{both}
 use Rattle.far_invariants.specs.Evictions.{written_in}
 use Rattle.far_invariants.specs.Evictions.{EvictionsAreSound}
 use Rattle.far_model.specs.Members.{Among, is_empty}
@@ -45,7 +45,7 @@ use Rattle.far_model.specs.Events.{Keeping, stops, restarts, recovery_items}
 use Rattle.far_model.specs.Members.{Each}
 use Rattle.far_model.specs.State.{noted, now}
 use Rattle.far_model.specs.Snapshots.{Job}
-use Rattle.run_laws.proofs.Deliveries.{runs_to}
+use Rattle.record_laws.proofs.Deliveries.{runs_to}
 use Rattle.far_invariants.specs.EvictionNeeds.{Needs, PacketsAreOnKey}
 use Rattle.eviction_laws.proofs.EveryEvent.{none_is, off_is}
 use Rattle.eviction_laws.proofs.Knowing.{NoteIsKnown, known_onward, view_onward, packet_onward, evicts_same, lines_known}

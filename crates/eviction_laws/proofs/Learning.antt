@@ -27,9 +27,9 @@ use Rattle.far_model.specs.Snapshots.{Job, has_begun, has_part, is_whole, comple
 use Rattle.far_model.specs.State.{State, client_at}
 use Rattle.far_model.specs.View.{SlotView, SwitchView, slot_at, shown_body, empty_slot, is_taken, held_record}
 use Rattle.flight_laws.proofs.Lists.{by_test}
-use Rattle.run_laws.proofs.Admissions.{nat_cases}
-use Rattle.run_laws.proofs.Controls.{IsControlNote}
-use Rattle.run_laws.proofs.Step.{passed_state}
+use Rattle.record_laws.proofs.Admissions.{nat_cases}
+use Rattle.record_laws.proofs.Controls.{IsControlNote}
+use Rattle.record_laws.proofs.Step.{passed_state}
 use Rattle.far_invariants.specs.Evictions.{is_eviction_of, EvictionsAreSound}
 use Rattle.far_invariants.specs.Known.{IsKnown, RecordIsKnown, ViewIsKnown, PacketIsKnown, ShownIsKnown}
 use Rattle.eviction_laws.proofs.Known.{held_known}

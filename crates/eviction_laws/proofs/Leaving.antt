@@ -29,8 +29,8 @@ use Rattle.far_model.specs.State.{State, client_at, records_at}
 use Rattle.far_model.specs.View.{SwitchView, slot_at, entry_place, is_taken, server_of, held_record}
 use Rattle.far_model.proofs.Members.{among_append, among_at, among_remove}
 use Rattle.flight_laws.proofs.Lists.{by_test}
-use Rattle.run_laws.proofs.Moves.{PassSits, read_sits, write_sits, reply_sits}
-use Rattle.run_laws.proofs.Seats.{SameOwner, counted, count_removed, count_append, count_none}
+use Rattle.record_laws.proofs.Moves.{PassSits, read_sits, write_sits, reply_sits}
+use Rattle.record_laws.proofs.Seats.{SameOwner, counted, count_removed, count_append, count_none}
 use Rattle.far_invariants.specs.Evictions.{Content, is_eviction_packet, is_eviction_of, EvictionPacketIs, EvictionsAre}
 use Rattle.eviction_laws.proofs.Onward.{LeavesEvictions, eviction_any, no_eviction_of, evictions_last}
 use Rattle.far_invariants.specs.Evictions.{Onward}

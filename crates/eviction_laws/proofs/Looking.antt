@@ -18,8 +18,8 @@ use Rattle.far_model.specs.Passes.{with_pass}
 use Rattle.far_model.specs.State.{State}
 use Rattle.far_model.specs.View.{SlotView, slot_at, shown_body}
 use Rattle.far_model.proofs.Members.{among_append, among_at, among_remove}
-use Rattle.run_laws.proofs.Keeps.{Keeps}
-use Rattle.run_laws.proofs.Seats.{counted, count_removed, count_append, count_one, Seats, bag_taken, same_seats, seats_last, unchanged_slots}
+use Rattle.record_laws.proofs.Keeps.{Keeps}
+use Rattle.record_laws.proofs.Seats.{counted, count_removed, count_append, count_one, Seats, bag_taken, same_seats, seats_last, unchanged_slots}
 use Rattle.far_invariants.specs.EvictionNeeds.{Needs}
 use Rattle.flight_laws.proofs.Lists.{by_test}
 use Rattle.far_invariants.specs.Evictions.{Content, is_eviction_of, PeekIs, EvictionPacketIs, EvictionsAre}

@@ -21,10 +21,10 @@ use Rattle.far_model.specs.Passes.{with_pass}
 use Rattle.far_model.specs.State.{State}
 use Rattle.far_model.specs.View.{SlotView, SwitchView, slot_at, entry_if, bound_place, is_slot_of, shown_body, empty_slot, is_taken, held_record}
 use Rattle.far_model.proofs.Members.{among_append, among_at, among_remove}
-use Rattle.run_laws.proofs.Keeps.{Keeps}
-use Rattle.run_laws.proofs.Requests.{reach_latest, reach_outdated}
-use Rattle.run_laws.proofs.Seats.{counted, count_removed, count_append, count_one, count_none, Seats, bag_taken, same_seats, seats_last, unchanged_slots}
-use Rattle.run_laws.proofs.Slots.{both, IsEntry, SetsSlot, entry_is, entry_kept, with_slot_sets, taken_sets}
+use Rattle.record_laws.proofs.Keeps.{Keeps}
+use Rattle.record_laws.proofs.Requests.{reach_latest, reach_outdated}
+use Rattle.record_laws.proofs.Seats.{counted, count_removed, count_append, count_one, count_none, Seats, bag_taken, same_seats, seats_last, unchanged_slots}
+use Rattle.record_laws.proofs.Slots.{both, IsEntry, SetsSlot, entry_is, entry_kept, with_slot_sets, taken_sets}
 use Rattle.far_invariants.specs.EvictionNeeds.{Needs}
 use Rattle.far_invariants.specs.Evictions.{Content, is_eviction_packet, is_eviction_of, eviction_count, RemoveIs, EvictionPacketIs, EvictionIs, StageIs, EvictionsAre}
 use Rattle.eviction_laws.proofs.Looking.{found_slot, there_same, under, slot_entry, slot_written, quiet_pass_keeps}

@@ -30,7 +30,3 @@ pub record CountersAreDrawn (s : State) : Type 0 where
   pub counter : s.running ≡ true → IsCounted s.log s.switch.counter
   pub packets : (m : Message) → Among m s.bag → TopIsCounted s.log m.packet
   pub tops : TopsAre (IsCounted s.log) s.controller.round
-
--- what the slots had when a snapshot began was written
-abbrev pub StartsAreWritten : PlanView → State → List SnapshotStart → Type 0
-StartsAreWritten plan s starts = (start : SnapshotStart) → Among start starts → (r : Record) → Among r (view_records start.views) → IsWritten plan s.log s.steps r.key r.num r.body

@@ -9,7 +9,6 @@ pub mod DrawnTags
 pub mod EvictionNeeds
 pub mod Evictions
 pub mod Flights
-pub mod Flown
 pub mod InFlight
 pub mod Invariants
 pub mod Known

@@ -139,7 +139,7 @@ servers_stay plan ceiling s (OrderOf j) h = go (slice_get plan.orders j)
     go (Some (StopOrder step)) = h
     go (Some (StopAtOrder kind times)) = h
 
-opening_within_none : (plan : PlanView) → ServersWithin 0 (opening plan)
+pub opening_within_none : (plan : PlanView) → ServersWithin 0 (opening plan)
 opening_within_none plan n r a = absurd (subst (λ l. Among r l) (get_or-replicate_default plan.config.servers n []) a)
 
 -- the greatest number put so far, in a run
@@ -158,7 +158,7 @@ pub drawn_by_some : (plan : PlanView) (events : List Event) → (ceiling : ℕ) 
 drawn_by_some plan events = (ceiling_along plan 0 (opening plan) events, numbers_are_drawn plan events)
 
 -- a run is one with keepers that answer by the rule of a server
-kept_is_run : (plan : PlanView) (ceiling : ℕ) (s : State) (events : List Event) → ServersWithin ceiling s → IsRun plan s events → IsRunWith plan ceiling s (kept_events plan s events)
+pub kept_is_run : (plan : PlanView) (ceiling : ℕ) (s : State) (events : List Event) → ServersWithin ceiling s → IsRun plan s events → IsRunWith plan ceiling s (kept_events plan s events)
 kept_is_run plan ceiling s [] h r = tt
 kept_is_run plan ceiling s (e ∷ es) h r =
     (r.0, answers_within ceiling s e h, kept_is_run plan (ceiling_after s e ceiling) (happens plan s e) es (servers_stay plan ceiling s e h) r.1)

@@ -1,21 +1,27 @@
 //! What holds in every state of every run of every valid plan, whatever the keepers answer in kind and not above their
 //! ceiling.
 
-ghost use Rattle.std.specs.Prelude.{◌≡◌, ℕ, suc, ◌≤◌, true};
+ghost use Rattle.std.specs.Prelude.{◌≡◌, ℕ, suc, ◌≤◌, true, List};
 ghost use Rattle.far_base.specs.PlanView.{PlanView};
 ghost use Rattle.far_base.specs.declared.event.Event.{Event};
 ghost use Rattle.far_model.specs.Answered.{AllAnswered};
 ghost use Rattle.far_invariants.specs.Logged.{OperationsAreLogged};
 ghost use Rattle.far_model.specs.Events.{Keeping, happens_with, is_enabled};
-ghost use Rattle.far_model.specs.Replies.{AnswersInKind};
-ghost use Rattle.far_model.specs.Runs.{is_finished, is_quiet};
-ghost use Rattle.far_model.specs.State.{State};
+ghost use Rattle.far_model.specs.Replies.{AnswersInKind, IsRunWith, kept_events, run_with};
+ghost use Rattle.far_model.specs.Runs.{IsRun, is_finished, is_quiet, run};
+ghost use Rattle.far_model.specs.State.{opening};
 ghost use Rattle.far_model.specs.Work.{work_left};
 ghost use Rattle.far_invariants.specs.Addressed.{AreAddressed};
 ghost use Rattle.far_invariants.specs.Always.{AlwaysWith};
 ghost use Rattle.far_invariants.specs.DrawnNumbers.{NumbersAreDrawn};
 ghost use Rattle.far_invariants.specs.Room.{HasRoom};
 ghost use Rattle.far_invariants.specs.Sound.{IsSound};
+
+/// A run in which the keepers answer by the rule of a server is one of these.
+pub fn runs_are_kept_runs()
+    ensures run { (plan : PlanView) (events : List Event) → IsRun plan (opening plan) events → IsRunWith plan 0 (opening plan) (kept_events plan (opening plan) events) }
+    ensures state { (plan : PlanView) (events : List Event) → run_with plan (opening plan) (kept_events plan (opening plan) events) ≡ run plan (opening plan) events }
+{}
 
 /// Everything that is under way has its packets on their way, and every message comes to a party that takes it.
 pub fn runs_are_sound()

@@ -1,7 +1,0 @@
-pub mod Counters
-pub mod Holding
-pub mod Numbers
-pub mod Runs
-pub mod Steady
-pub mod Steps
-pub mod Stopped
