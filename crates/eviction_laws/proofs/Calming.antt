@@ -1,4 +1,5 @@
 -- Snapshots, hot keys, wants and admissions leave evictions as they are.
+use Rattle.far_invariants.proofs.Noted.{member}
 use Rattle.std.proofs.Common.{◌≡◌, ◌≢◌, ℕ, ◌⊎◌, inl, inr, Bool, true, false, List, [], ◌∷◌, ◌++◌, refl, sym, ap, ◌∙◌, arith}
 use Rattle.std.specs.Prelude.{Option, Some, None, if◌then◌else◌, ◌&&◌, nat_eq, nat_lt, is_some, slice_get, slice_set}
 use Rattle.std.specs.List.{remove}
@@ -20,7 +21,7 @@ use Rattle.far_model.specs.Controller.{ControllerState, wanted, snapshot_begun, 
 use Rattle.far_model.specs.Events.{controller_turn, switch_turn}
 use Rattle.far_model.specs.Evictions.{state_at, is_free, first_place, is_admitting, key_in}
 use Rattle.far_invariants.specs.Invariants.{look}
-use Rattle.eviction_laws.specs.Needs.{PacketNeeds, Needs}
+use Rattle.far_invariants.specs.EvictionNeeds.{PacketNeeds, Needs}
 use Rattle.far_model.specs.Members.{Among}
 use Rattle.far_model.specs.Parties.{Turn, idle, messages_from}
 use Rattle.far_model.specs.Pass.{Passed, admits, admitted, dropped, is_slot_there, sent_to, pass_notes, passed_out}
@@ -29,11 +30,10 @@ use Rattle.far_model.specs.State.{State}
 use Rattle.far_model.specs.View.{SlotView, slot_at, empty_slot}
 use Rattle.far_model.proofs.Members.{among_at}
 use Rattle.flight_laws.proofs.Lists.{by_test}
-use Rattle.run_laws.proofs.Admissions.{first_some, free_is}
-use Rattle.run_laws.proofs.Calm.{is_plain, IsCalm}
-use Rattle.run_laws.proofs.Frame.{member}
-use Rattle.run_laws.proofs.Seats.{SameOwner}
-use Rattle.eviction_laws.specs.Evicting.{Content, is_eviction_packet, is_eviction_of, EvictionPacketIs, EvictionsAre}
+use Rattle.record_laws.proofs.Admissions.{first_some, free_is}
+use Rattle.record_laws.proofs.Calm.{is_plain, IsCalm}
+use Rattle.record_laws.proofs.Seats.{SameOwner}
+use Rattle.far_invariants.specs.Evictions.{Content, is_eviction_packet, is_eviction_of, EvictionPacketIs, EvictionsAre}
 use Rattle.eviction_laws.proofs.Leaving.{SameEvictionBag, evictions_taken, evictions_grown, passes_leave, one_no}
 use Rattle.eviction_laws.proofs.Looking.{there_same}
 use Rattle.eviction_laws.proofs.Onward.{eviction_any, no_eviction_of, evictions_last}
@@ -248,7 +248,7 @@ module _ (plan : PlanView) {c : Content} (s : State) (need : Needs plan c s) (v 
       others j ne = get_or-set_other s.controller.slots i j (acked_state (state_at s.controller.slots i)) Free ne
 
       now_held : state_at (slice_set s.controller.slots i (acked_state (state_at s.controller.slots i))) i ≡ Held its.0 tag
-      now_held = get_or-set_same s.controller.slots i (acked_state (state_at s.controller.slots i)) Free (Rattle.run_laws.proofs.Arrivals.state_within s.controller.slots i its.0 tag its.1) ∙ ap acked_state its.1
+      now_held = get_or-set_same s.controller.slots i (acked_state (state_at s.controller.slots i)) Free (Rattle.record_laws.proofs.Arrivals.state_within s.controller.slots i its.0 tag its.1) ∙ ap acked_state its.1
 
       go : (b : Bool) → EvictionsAre plan c (controller_turn s (remove s.bag n) (if b then record { state = with_state s.controller i (acked_state (state_at s.controller.slots i)); out = []; notes = Admitted i (key_in (state_at s.controller.slots i)) tag ∷ [] } else idle s.controller))
       go true = leaves (record { state = with_state s.controller i (acked_state (state_at s.controller.slots i)); out = []; notes = Admitted i (key_in (state_at s.controller.slots i)) tag ∷ [] }) refl refl refl refl refl

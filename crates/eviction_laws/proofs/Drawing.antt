@@ -30,11 +30,11 @@ use Rattle.far_model.specs.State.{State}
 use Rattle.far_model.specs.View.{SwitchView, slot_at, entry_place, is_taken, server_of, shown_body, empty_slot, held_record}
 use Rattle.far_model.proofs.Members.{among_append, among_append_left, among_map_from, each_among}
 use Rattle.flight_laws.proofs.Lists.{by_test, get_or-replicate_default}
-use Rattle.run_laws.proofs.Slots.{IsEntry, entry_is, both, there_is}
-use Rattle.eviction_laws.specs.Evicting.{written_in}
-use Rattle.eviction_laws.specs.Drawn.{WasDrawn, WasDrawnAt, TagIsDrawn, TagsAreDrawn, SlotTagsAreDrawn, TagsAreOnes}
-use Rattle.eviction_laws.specs.Evicting.{EvictionIs, EvictionsAreSound}
-use Rattle.eviction_laws.specs.Needs.{Needs}
+use Rattle.record_laws.proofs.Slots.{IsEntry, entry_is, both, there_is}
+use Rattle.far_invariants.specs.Evictions.{written_in}
+use Rattle.far_invariants.specs.DrawnTags.{WasDrawn, WasDrawnAt, TagIsDrawn, TagsAreDrawn, SlotTagsAreDrawn, TagsAreOnes}
+use Rattle.far_invariants.specs.Evictions.{EvictionIs, EvictionsAreSound}
+use Rattle.far_invariants.specs.EvictionNeeds.{Needs}
 
 pub tag_more : (drawn new : List DrawnTag) (p : Packet) → TagIsDrawn drawn p → TagIsDrawn (drawn ++ new) p
 tag_more drawn new (GetFwd caller op key tag) h = λ above. let w = h above in record { slot = w.slot; epoch = w.epoch; there = among_append_left _ drawn new w.there }

@@ -29,13 +29,13 @@ use Rattle.far_model.specs.Rounds.{Round}
 use Rattle.far_model.specs.Servers.{server_reply}
 use Rattle.far_model.specs.State.{State, client_at, records_at}
 use Rattle.far_model.proofs.Members.{among_append, among_append_left, among_append_right, pairs_append, among_at, among_remove}
-use Rattle.run_laws.proofs.Admissions.{nat_cases, first_some}
-use Rattle.run_laws.proofs.Slots.{both}
-use Rattle.eviction_laws.specs.Evicting.{written_in}
-use Rattle.eviction_laws.specs.Drawn.{drawing, WasDrawn, TagIsDrawn, TagsAreDrawn}
-use Rattle.eviction_laws.specs.Evicting.{EvictionsAreSound}
-use Rattle.eviction_laws.specs.Needs.{Needs}
-use Rattle.run_laws.proofs.Deliveries.{runs_to}
+use Rattle.record_laws.proofs.Admissions.{nat_cases, first_some}
+use Rattle.record_laws.proofs.Slots.{both}
+use Rattle.far_invariants.specs.Evictions.{written_in}
+use Rattle.far_invariants.specs.DrawnTags.{drawing, WasDrawn, TagIsDrawn, TagsAreDrawn}
+use Rattle.far_invariants.specs.Evictions.{EvictionsAreSound}
+use Rattle.far_invariants.specs.EvictionNeeds.{Needs}
+use Rattle.record_laws.proofs.Deliveries.{runs_to}
 use Rattle.far_model.specs.Events.{can_deliver, Keeping, restarts}
 use Rattle.eviction_laws.proofs.Beginning.{key_held, victim_held}
 use Rattle.eviction_laws.proofs.Drawing.{tag_more, none_drawn, bag_drawn, pass_drawn, TurnDraws, idle_draws, wanted_draws, dropped_draws, start_draws, takes_draws, recovery_draws, evict_draws, client_draws, request_draws}

@@ -12,8 +12,8 @@ use Rattle.far_model.specs.State.{State, opening}
 use Rattle.flight_laws.proofs.Handling.{IsInFlight, flight_opens, flight_step}
 use Rattle.flight_laws.proofs.Lists.{get_or-replicate_default}
 use Rattle.flight_laws.proofs.WithoutCache.{answers_in_kind}
-use Rattle.eviction_laws.specs.Drawn.{TagsAreDrawn}
-use Rattle.eviction_laws.specs.Unstopped.{IsUnstopped}
+use Rattle.far_invariants.specs.DrawnTags.{TagsAreDrawn}
+use Rattle.far_invariants.specs.Unstopped.{IsUnstopped}
 use Rattle.eviction_laws.proofs.DrawnEvents.{event_draws}
 use Rattle.eviction_laws.proofs.EvictingRuns.{Runs, step_lasts, evicting_runs}
 use Rattle.eviction_laws.proofs.Needing.{needs_met}

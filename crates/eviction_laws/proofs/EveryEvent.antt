@@ -25,11 +25,11 @@ use Rattle.far_model.specs.Parties.{Turn, idle}
 use Rattle.far_model.specs.Rounds.{Round}
 use Rattle.far_model.specs.State.{State}
 use Rattle.far_model.proofs.Members.{among_at}
-use Rattle.run_laws.proofs.Slots.{both}
-use Rattle.run_laws.proofs.Snapshots.{calm_turn, idle_calm, want_dropped_calm, wanted_calm, start_calm, begun_calm, part_calm, snap_start_calm, snap_read_calm, release_calm, snap_from_calm, same_calm}
-use Rattle.eviction_laws.specs.Evicting.{anything, Content, EvictionsAre}
+use Rattle.record_laws.proofs.Slots.{both}
+use Rattle.record_laws.proofs.Snapshots.{calm_turn, idle_calm, want_dropped_calm, wanted_calm, start_calm, begun_calm, part_calm, snap_start_calm, snap_read_calm, release_calm, snap_from_calm, same_calm}
+use Rattle.far_invariants.specs.Evictions.{anything, Content, EvictionsAre}
 use Rattle.eviction_laws.proofs.Beginning.{begun_sound, key_held, victim_held}
-use Rattle.eviction_laws.specs.Needs.{ItemIsWritten, ToldIsWritten, Needs}
+use Rattle.far_invariants.specs.EvictionNeeds.{ItemIsWritten, ToldIsWritten, Needs}
 use Rattle.eviction_laws.proofs.Calming.{same_apart, calm_taken, calm_grown, wanted_apart, begun_apart, part_apart, want_leaves, admit_leaves, ack_leaves, same_apart_job}
 use Rattle.eviction_laws.proofs.Leaving.{moved_leaves, send_leaves}
 use Rattle.eviction_laws.proofs.Looking.{peek_sound}
@@ -39,8 +39,8 @@ use Rattle.far_model.specs.Controller.{start_recovery, round_stored, first_want_
 use Rattle.far_model.specs.Events.{is_switch, Keeping, restarts}
 use Rattle.far_model.specs.Members.{Among}
 use Rattle.std.specs.List.{list_any}
-use Rattle.run_laws.proofs.Deliveries.{runs_to}
-use Rattle.eviction_laws.specs.Needs.{RoundNeeds}
+use Rattle.record_laws.proofs.Deliveries.{runs_to}
+use Rattle.far_invariants.specs.EvictionNeeds.{RoundNeeds}
 use Rattle.eviction_laws.proofs.Hearing.{idle_sound, peek_answer_sound, remove_answer_sound, stored_sound}
 use Rattle.eviction_laws.proofs.Stopping.{stop_sound, recovery_sound, restart_sound, stored_in_round, told_in_round, top_in_round}
 use Rattle.eviction_laws.proofs.Storing.{store_sound}

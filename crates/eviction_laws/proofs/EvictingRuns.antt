@@ -29,24 +29,24 @@ use Rattle.far_model.proofs.Members.{among_at}
 use Rattle.flight_laws.proofs.Handling.{IsInFlight, flight_opens, flight_step}
 use Rattle.flight_laws.proofs.Lists.{get_or-replicate_default}
 use Rattle.flight_laws.proofs.WithoutCache.{answers_in_kind, reply_in_kind}
-use Rattle.run_laws.proofs.Admissions.{want_keeps, want_sits}
-use Rattle.run_laws.proofs.Arrivals.{admit_keeps, ack_keeps}
-use Rattle.run_laws.proofs.Calm.{IsCalm, rest_all, rest_taken, calm_keeps, calm_seats}
-use Rattle.run_laws.proofs.Deliveries.{delivered_keeps}
-use Rattle.run_laws.proofs.LastingRuns.{opening_sits}
-use Rattle.run_laws.proofs.Moves.{moved_sits, send_sits}
-use Rattle.run_laws.proofs.Openings.{opening_keeps}
-use Rattle.run_laws.proofs.Scripts.{send_keeps}
-use Rattle.run_laws.proofs.Seats.{is_admission_packet}
-use Rattle.run_laws.proofs.Slots.{both}
-use Rattle.run_laws.proofs.Snapshots.{calm_turn, idle_calm, want_dropped_calm, wanted_calm, start_calm, begun_calm, part_calm, snap_start_calm, snap_read_calm, release_calm, snap_from_calm, same_calm}
-use Rattle.eviction_laws.specs.Evicting.{written_in}
-use Rattle.eviction_laws.specs.Evicting.{is_eviction_packet, EvictionsAreSound}
-use Rattle.eviction_laws.specs.Unstopped.{IsUnstopped, is_stop}
+use Rattle.record_laws.proofs.Admissions.{want_keeps, want_sits}
+use Rattle.record_laws.proofs.Arrivals.{admit_keeps, ack_keeps}
+use Rattle.record_laws.proofs.Calm.{IsCalm, rest_all, rest_taken, calm_keeps, calm_seats}
+use Rattle.record_laws.proofs.Deliveries.{delivered_keeps}
+use Rattle.record_laws.proofs.LastingRuns.{opening_sits}
+use Rattle.record_laws.proofs.Moves.{moved_sits, send_sits}
+use Rattle.record_laws.proofs.Openings.{opening_keeps}
+use Rattle.record_laws.proofs.Scripts.{send_keeps}
+use Rattle.record_laws.proofs.Seats.{is_admission_packet}
+use Rattle.record_laws.proofs.Slots.{both}
+use Rattle.record_laws.proofs.Snapshots.{calm_turn, idle_calm, want_dropped_calm, wanted_calm, start_calm, begun_calm, part_calm, snap_start_calm, snap_read_calm, release_calm, snap_from_calm, same_calm}
+use Rattle.far_invariants.specs.Evictions.{written_in}
+use Rattle.far_invariants.specs.Evictions.{is_eviction_packet, EvictionsAreSound}
+use Rattle.far_invariants.specs.Unstopped.{IsUnstopped, is_stop}
 use Rattle.eviction_laws.proofs.Onward.{written_onward}
 use Rattle.eviction_laws.proofs.Beginning.{begun_keeps, begun_sits, begun_sound, key_held, victim_held}
 use Rattle.eviction_laws.proofs.Needing.{held_fits, needs_met}
-use Rattle.eviction_laws.specs.Needs.{Needs}
+use Rattle.far_invariants.specs.EvictionNeeds.{Needs}
 use Rattle.eviction_laws.proofs.Calming.{IsApart, same_apart, calm_taken, calm_grown, wanted_apart, begun_apart, part_apart, want_leaves, admit_leaves, ack_leaves, same_apart_job}
 use Rattle.eviction_laws.proofs.Deciding.{Lasting}
 use Rattle.eviction_laws.proofs.Hearing.{peek_answer_holds, remove_answer_holds, stored_holds}

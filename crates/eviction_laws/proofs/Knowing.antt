@@ -1,4 +1,5 @@
 -- What was shown stays known: what a turn of each party has to say of what it shows anew.
+use Rattle.far_invariants.proofs.Noted.{IsNote, member, log_cases}
 use Rattle.std.proofs.Common.{◌≡◌, ◌≢◌, ℕ, zero, suc, ◌≤◌, ◌⊎◌, inl, inr, Bool, List, [], ◌∷◌, ◌++◌, refl, sym, ap, ◌∙◌, subst, arith, le_trans}
 use Rattle.std.specs.Prelude.{Option, Some, None, if◌then◌else◌, ◌&&◌, nat_eq, slice_get, set}
 use Rattle.std.specs.List.{remove, count_by}
@@ -26,13 +27,12 @@ use Rattle.far_model.specs.Snapshots.{Job, view_records, view_in}
 use Rattle.far_model.specs.State.{State, client_at, nobody, line_at, now}
 use Rattle.far_model.specs.View.{SlotView, SwitchView, slot_at, held_record}
 use Rattle.far_model.proofs.Members.{among_append, among_map_from, each_among}
-use Rattle.run_laws.proofs.Admissions.{nat_cases}
-use Rattle.run_laws.proofs.Controls.{IsControlNote}
-use Rattle.run_laws.proofs.Frame.{IsNote, log_cases, member}
-use Rattle.run_laws.proofs.Slots.{SetsSlot}
-use Rattle.run_laws.proofs.Step.{passed_state}
-use Rattle.eviction_laws.specs.Shown.{IsKnown, RecordIsKnown, ViewIsKnown, PacketIsKnown, ShownIsKnown}
-use Rattle.eviction_laws.specs.Evicting.{Onward}
+use Rattle.record_laws.proofs.Admissions.{nat_cases}
+use Rattle.record_laws.proofs.Controls.{IsControlNote}
+use Rattle.record_laws.proofs.Slots.{SetsSlot}
+use Rattle.record_laws.proofs.Step.{passed_state}
+use Rattle.far_invariants.specs.Known.{IsKnown, RecordIsKnown, ViewIsKnown, PacketIsKnown, ShownIsKnown}
+use Rattle.far_invariants.specs.Evictions.{Onward}
 use Rattle.flight_laws.proofs.Lists.{by_test}
 
 pub known_onward : (plan : PlanView) (s t : State) → Onward plan s t → (key : List ℕ) (num : ℕ) → IsKnown plan s key num → IsKnown plan t key num

@@ -1,4 +1,5 @@
 -- Packets of operations show only what is known.
+use Rattle.far_invariants.proofs.Noted.{note_member}
 use Rattle.far_base.specs.declared.record.Versioned.{Versioned}
 use Rattle.std.proofs.Common.{◌≡◌, ℕ, ◌+◌, ◌<◌, ◌≤◌, max, ◌⊎◌, inl, inr, Bool, true, false, List, [], ◌∷◌, refl, sym, ap, ◌∙◌, subst, arith}
 use Rattle.std.proofs.lemmas.Bool.Decides.{leb_tells}
@@ -31,13 +32,12 @@ use Rattle.far_model.specs.State.{State, client_at, records_at, now}
 use Rattle.far_model.specs.View.{SlotView, SwitchView, slot_at, entry_place, is_taken, server_of, held_record}
 use Rattle.far_model.proofs.Members.{among_at, among_remove}
 use Rattle.flight_laws.proofs.Lists.{by_test}
-use Rattle.run_laws.proofs.Frame.{note_member}
-use Rattle.run_laws.proofs.Slots.{IsEntry, entry_is, both, there_is, with_slot_sets, taken_sets, SetsSlot}
-use Rattle.run_laws.proofs.Step.{passed_state}
-use Rattle.eviction_laws.specs.Needs.{PacketsAreOnKey}
-use Rattle.eviction_laws.specs.Shown.{IsKnown, RecordIsKnown, ViewIsKnown, PacketIsKnown, ShownIsKnown}
+use Rattle.record_laws.proofs.Slots.{IsEntry, entry_is, both, there_is, with_slot_sets, taken_sets, SetsSlot}
+use Rattle.record_laws.proofs.Step.{passed_state}
+use Rattle.far_invariants.specs.EvictionNeeds.{PacketsAreOnKey}
+use Rattle.far_invariants.specs.Known.{IsKnown, RecordIsKnown, ViewIsKnown, PacketIsKnown, ShownIsKnown}
 use Rattle.eviction_laws.proofs.Knowing.{known_onward, view_onward, OutIsKnown, pass_onward, pass_knows, slots_same, slots_set, client_knows, served_onward, server_knows, part_known}
-use Rattle.eviction_laws.specs.Evicting.{Onward}
+use Rattle.far_invariants.specs.Evictions.{Onward}
 use Rattle.eviction_laws.proofs.Storing.{its_look, more_at}
 
 hot_known : (plan : PlanView) (t : State) (key : List ℕ) (v : SwitchView) → OutIsKnown plan t (told_hot key v)

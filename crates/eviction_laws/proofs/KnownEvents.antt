@@ -1,4 +1,5 @@
 -- Every event keeps it that all that was shown is known, where the switch may stop too.
+use Rattle.far_invariants.proofs.Noted.{member}
 use Rattle.std.proofs.Common.{◌≡◌, ℕ, ◌+◌, Bool, true, false, not, List, [], ◌∷◌, refl, sym, ap, ◌∙◌, subst, arith, eqb-true}
 use Rattle.std.specs.Prelude.{Option, Some, None, if◌then◌else◌, ◌&&◌, is_some, slice_get, nat_eq}
 use Rattle.std.specs.List.{remove}
@@ -22,9 +23,9 @@ use Rattle.far_model.specs.Parties.{Turn}
 use Rattle.far_model.specs.State.{State, opening}
 use Rattle.far_model.proofs.Members.{among_at}
 use Rattle.flight_laws.proofs.Lists.{get_or-replicate_default}
-use Rattle.run_laws.proofs.Slots.{both}
-use Rattle.eviction_laws.specs.Evicting.{written_in}
-use Rattle.eviction_laws.specs.Evicting.{EvictionsAreSound}
+use Rattle.record_laws.proofs.Slots.{both}
+use Rattle.far_invariants.specs.Evictions.{written_in}
+use Rattle.far_invariants.specs.Evictions.{EvictionsAreSound}
 use Rattle.far_model.specs.Members.{Among, is_empty}
 use Rattle.far_model.specs.Pass.{is_slot_there, is_under, peeks, removes, dropped}
 use Rattle.far_model.specs.Events.{switch_turn}
@@ -32,8 +33,8 @@ use Rattle.far_model.specs.Clients.{ClientState}
 use Rattle.far_model.specs.State.{client_at, clients_from, nobody}
 use Rattle.far_model.specs.View.{SlotView, slot_at, empty_slot, server_of}
 use Rattle.far_model.proofs.Members.{among_remove}
-use Rattle.eviction_laws.specs.Evicting.{PeekIs, RemoveIs, EvictionPacketIs}
-use Rattle.eviction_laws.specs.Shown.{ShownIsKnown}
+use Rattle.far_invariants.specs.Evictions.{PeekIs, RemoveIs, EvictionPacketIs}
+use Rattle.far_invariants.specs.Known.{ShownIsKnown}
 use Rattle.eviction_laws.proofs.Knowing.{server_knows}
 use Rattle.eviction_laws.proofs.Known.{operation_knows, send_knows}
 use Rattle.eviction_laws.proofs.Learning.{idle_knows, wanted_knows, want_dropped_knows, want_knows, ack_knows, start_knows, begun_knows, part_knows, peek_answer_knows, remove_answer_knows, stored_knows, evict_knows, snap_start_knows, snap_read_knows, admit_knows, peek_pass_knows, remove_pass_knows, release_knows, ask_knows, drop_knows, snap_from_knows, same_knows_job}
@@ -44,13 +45,12 @@ use Rattle.far_model.specs.Events.{Keeping, stops, restarts, recovery_items}
 use Rattle.far_model.specs.Members.{Each}
 use Rattle.far_model.specs.State.{noted, now}
 use Rattle.far_model.specs.Snapshots.{Job}
-use Rattle.run_laws.proofs.Deliveries.{runs_to}
-use Rattle.run_laws.proofs.Frame.{member}
-use Rattle.eviction_laws.specs.Needs.{Needs, PacketsAreOnKey}
+use Rattle.record_laws.proofs.Deliveries.{runs_to}
+use Rattle.far_invariants.specs.EvictionNeeds.{Needs, PacketsAreOnKey}
 use Rattle.eviction_laws.proofs.EveryEvent.{none_is, off_is}
 use Rattle.eviction_laws.proofs.Knowing.{NoteIsKnown, known_onward, view_onward, packet_onward, evicts_same, lines_known}
 use Rattle.eviction_laws.proofs.Learning.{told_knows, top_knows, recovery_knows}
-use Rattle.eviction_laws.specs.Evicting.{Onward}
+use Rattle.far_invariants.specs.Evictions.{Onward}
 
 -- the switch is emptied, and nothing else changes
 emptied_knows : (plan : PlanView) (s : State) → ShownIsKnown plan s → (t : State) (notes : List LogEntry) → t.log ≡ noted s notes → Each (NoteIsKnown plan t) notes → t.steps ≡ now s → ((c : ℕ) → client_at t c ≡ client_at s c) → t.servers ≡ s.servers

@@ -13,8 +13,8 @@ use Rattle.far_model.specs.View.{SlotView, empty_slot}
 use Rattle.flight_laws.proofs.Handling.{IsInFlight, flight_opens, flight_step}
 use Rattle.flight_laws.proofs.Lists.{get_or-replicate_default}
 use Rattle.flight_laws.proofs.WithoutCache.{answers_in_kind}
-use Rattle.eviction_laws.specs.Shown.{ShownIsKnown}
-use Rattle.eviction_laws.specs.Unstopped.{IsUnstopped}
+use Rattle.far_invariants.specs.Known.{ShownIsKnown}
+use Rattle.far_invariants.specs.Unstopped.{IsUnstopped}
 use Rattle.eviction_laws.proofs.EvictingRuns.{Runs, step_lasts, evicting_runs}
 use Rattle.eviction_laws.proofs.KnownEvents.{event_knows}
 use Rattle.eviction_laws.proofs.Needing.{needs_met, keys_met}

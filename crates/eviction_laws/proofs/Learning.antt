@@ -27,15 +27,15 @@ use Rattle.far_model.specs.Snapshots.{Job, has_begun, has_part, is_whole, comple
 use Rattle.far_model.specs.State.{State, client_at}
 use Rattle.far_model.specs.View.{SlotView, SwitchView, slot_at, shown_body, empty_slot, is_taken, held_record}
 use Rattle.flight_laws.proofs.Lists.{by_test}
-use Rattle.run_laws.proofs.Admissions.{nat_cases}
-use Rattle.run_laws.proofs.Controls.{IsControlNote}
-use Rattle.run_laws.proofs.Step.{passed_state}
-use Rattle.eviction_laws.specs.Evicting.{is_eviction_of, EvictionsAreSound}
-use Rattle.eviction_laws.specs.Shown.{IsKnown, RecordIsKnown, ViewIsKnown, PacketIsKnown, ShownIsKnown}
+use Rattle.record_laws.proofs.Admissions.{nat_cases}
+use Rattle.record_laws.proofs.Controls.{IsControlNote}
+use Rattle.record_laws.proofs.Step.{passed_state}
+use Rattle.far_invariants.specs.Evictions.{is_eviction_of, EvictionsAreSound}
+use Rattle.far_invariants.specs.Known.{IsKnown, RecordIsKnown, ViewIsKnown, PacketIsKnown, ShownIsKnown}
 use Rattle.eviction_laws.proofs.Known.{held_known}
 use Rattle.eviction_laws.proofs.Knowing.{known_onward, view_onward, OutIsKnown, EachIsKnown, pass_onward, pass_knows, slots_same, ruled_onward, turn_knows, olds_known, parts_stay, last_stays, item_stays, evicts_on as evicts_stay, client_knows, served_onward, part_known, among_views}
 use Rattle.eviction_laws.proofs.Onward.{none_at_all}
-use Rattle.eviction_laws.specs.Evicting.{Onward}
+use Rattle.far_invariants.specs.Evictions.{Onward}
 
 -- ---- lists
 

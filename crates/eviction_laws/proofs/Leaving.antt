@@ -1,4 +1,5 @@
 -- Packets of operations, of admissions and of snapshots leave evictions as they are.
+use Rattle.far_invariants.proofs.Noted.{member}
 use Rattle.std.proofs.Common.{◌≡◌, ℕ, ◌<◌, ◌≤◌, ◌⊎◌, inl, inr, Bool, true, false, cond, List, [], ◌∷◌, ◌++◌, refl, sym, ap, ◌∙◌, subst, arith}
 use Rattle.std.specs.Prelude.{Option, Some, None, slice_get, get_or, set}
 use Rattle.std.specs.List.{remove, count_by}
@@ -28,12 +29,11 @@ use Rattle.far_model.specs.State.{State, client_at, records_at}
 use Rattle.far_model.specs.View.{SwitchView, slot_at, entry_place, is_taken, server_of, held_record}
 use Rattle.far_model.proofs.Members.{among_append, among_at, among_remove}
 use Rattle.flight_laws.proofs.Lists.{by_test}
-use Rattle.run_laws.proofs.Frame.{member}
-use Rattle.run_laws.proofs.Moves.{PassSits, read_sits, write_sits, reply_sits}
-use Rattle.run_laws.proofs.Seats.{SameOwner, counted, count_removed, count_append, count_none}
-use Rattle.eviction_laws.specs.Evicting.{Content, is_eviction_packet, is_eviction_of, EvictionPacketIs, EvictionsAre}
+use Rattle.record_laws.proofs.Moves.{PassSits, read_sits, write_sits, reply_sits}
+use Rattle.record_laws.proofs.Seats.{SameOwner, counted, count_removed, count_append, count_none}
+use Rattle.far_invariants.specs.Evictions.{Content, is_eviction_packet, is_eviction_of, EvictionPacketIs, EvictionsAre}
 use Rattle.eviction_laws.proofs.Onward.{LeavesEvictions, eviction_any, no_eviction_of, evictions_last}
-use Rattle.eviction_laws.specs.Evicting.{Onward}
+use Rattle.far_invariants.specs.Evictions.{Onward}
 use Rattle.eviction_laws.proofs.Storing.{more_at}
 
 -- the bag of a step that takes and sends no packet of evictions

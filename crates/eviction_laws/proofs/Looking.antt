@@ -18,11 +18,11 @@ use Rattle.far_model.specs.Passes.{with_pass}
 use Rattle.far_model.specs.State.{State}
 use Rattle.far_model.specs.View.{SlotView, slot_at, shown_body}
 use Rattle.far_model.proofs.Members.{among_append, among_at, among_remove}
-use Rattle.run_laws.proofs.Keeps.{Keeps}
-use Rattle.run_laws.proofs.Seats.{counted, count_removed, count_append, count_one, Seats, bag_taken, same_seats, seats_last, unchanged_slots}
-use Rattle.eviction_laws.specs.Needs.{Needs}
+use Rattle.record_laws.proofs.Keeps.{Keeps}
+use Rattle.record_laws.proofs.Seats.{counted, count_removed, count_append, count_one, Seats, bag_taken, same_seats, seats_last, unchanged_slots}
+use Rattle.far_invariants.specs.EvictionNeeds.{Needs}
 use Rattle.flight_laws.proofs.Lists.{by_test}
-use Rattle.eviction_laws.specs.Evicting.{Content, is_eviction_of, PeekIs, EvictionPacketIs, EvictionsAre}
+use Rattle.far_invariants.specs.Evictions.{Content, is_eviction_of, PeekIs, EvictionPacketIs, EvictionsAre}
 use Rattle.eviction_laws.proofs.Onward.{evictions_last}
 use Rattle.eviction_laws.proofs.Rules.{Rules, slot_rests, rules_keep}
 use Rattle.eviction_laws.proofs.Seating.{given_within}
@@ -126,7 +126,7 @@ module _ (plan : PlanView) {c : Content} (s : State) (need : Needs plan c s) (v 
       → count_by (λ (m : Message). is_eviction_of s.controller.epoch s.controller.eviction m.packet) new ≡ counted (λ (m : Message). is_eviction_of s.controller.epoch s.controller.eviction m.packet) asked
       → EvictionsAre plan c (after new)
   leaves new news count = evictions_last plan s (after new) v (record {
-    onward = record { still = Rattle.run_laws.proofs.Frame.member s (after new) [] refl; past = omega arith; more = λ key. omega arith };
+    onward = record { still = Rattle.far_invariants.proofs.Noted.member s (after new) [] refl; past = omega arith; more = λ key. omega arith };
     running = λ e. e;
     eviction = refl;
     epoch = refl;
@@ -169,7 +169,7 @@ module _ (plan : PlanView) {c : Content} (s : State) (need : Needs plan c s) (v 
     answer_is = record {
       awaits = record { eviction = e; is = peek.awaits.is; due_is = peek.awaits.due_is; slot_is = peek.awaits.slot_is; tag_is = peek.awaits.tag_is };
       there = peek.there;
-      written = λ l. v.lasts s (after (answer ∷ [])) (record { still = Rattle.run_laws.proofs.Frame.member s (after (answer ∷ [])) [] refl; past = omega arith; more = λ key. omega arith }) e.key _ _ (body_shown (slot_at s.switch i).latest refl l);
+      written = λ l. v.lasts s (after (answer ∷ [])) (record { still = Rattle.far_invariants.proofs.Noted.member s (after (answer ∷ [])) [] refl; past = omega arith; more = λ key. omega arith }) e.key _ _ (body_shown (slot_at s.switch i).latest refl l);
     }
 
     answered : EvictionsAre plan c (after (answer ∷ []))

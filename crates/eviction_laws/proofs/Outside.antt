@@ -21,8 +21,8 @@ use Rattle.far_model.specs.Rounds.{Round}
 use Rattle.far_model.specs.State.{State, client_at, nobody}
 use Rattle.far_model.proofs.Members.{among_map_from, each_among}
 use Rattle.flight_laws.proofs.Lists.{by_test, set_field}
-use Rattle.run_laws.proofs.Calm.{is_plain, IsCalm}
-use Rattle.run_laws.proofs.Snapshots.{IsPlainOut}
+use Rattle.record_laws.proofs.Calm.{is_plain, IsCalm}
+use Rattle.record_laws.proofs.Snapshots.{IsPlainOut}
 use Rattle.eviction_laws.proofs.Calming.{wanted_apart, begun_apart, part_apart, same_apart_job}
 
 abbrev IsOutside : ControllerState → Turn ControllerState → Type 0

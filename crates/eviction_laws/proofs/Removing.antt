@@ -1,4 +1,6 @@
 -- A removal reaches the switch: the slot goes where it holds no more than was stored.
+use Rattle.far_invariants.proofs.Noted.{member}
+use Rattle.far_invariants.proofs.Keys.{key_cases}
 use Rattle.std.proofs.Common.{◌≡◌, ◌≢◌, ℕ, ◌+◌, ◌<◌, ◌≤◌, ◌⊎◌, inl, inr, Bool, true, false, cond, List, [], ◌∷◌, ◌++◌, length, refl, sym, ap, ◌∙◌, subst, arith, eq-eqb, ne_eqb, eqb-true}
 use Rattle.std.specs.Prelude.{Some, None, if◌then◌else◌, ◌&&◌, nat_eq, slice_get}
 use Rattle.std.specs.List.{remove, count_by}
@@ -19,16 +21,15 @@ use Rattle.far_model.specs.Passes.{with_pass}
 use Rattle.far_model.specs.State.{State}
 use Rattle.far_model.specs.View.{SlotView, SwitchView, slot_at, entry_if, bound_place, is_slot_of, shown_body, empty_slot, is_taken, held_record}
 use Rattle.far_model.proofs.Members.{among_append, among_at, among_remove}
-use Rattle.run_laws.proofs.Frame.{member}
-use Rattle.run_laws.proofs.Keeps.{Keeps}
-use Rattle.run_laws.proofs.Requests.{reach_latest, reach_outdated}
-use Rattle.run_laws.proofs.Seats.{counted, count_removed, count_append, count_one, count_none, Seats, bag_taken, same_seats, seats_last, unchanged_slots}
-use Rattle.run_laws.proofs.Slots.{key_cases, both, IsEntry, SetsSlot, entry_is, entry_kept, with_slot_sets, taken_sets}
-use Rattle.eviction_laws.specs.Needs.{Needs}
-use Rattle.eviction_laws.specs.Evicting.{Content, is_eviction_packet, is_eviction_of, eviction_count, RemoveIs, EvictionPacketIs, EvictionIs, StageIs, EvictionsAre}
+use Rattle.record_laws.proofs.Keeps.{Keeps}
+use Rattle.record_laws.proofs.Requests.{reach_latest, reach_outdated}
+use Rattle.record_laws.proofs.Seats.{counted, count_removed, count_append, count_one, count_none, Seats, bag_taken, same_seats, seats_last, unchanged_slots}
+use Rattle.record_laws.proofs.Slots.{both, IsEntry, SetsSlot, entry_is, entry_kept, with_slot_sets, taken_sets}
+use Rattle.far_invariants.specs.EvictionNeeds.{Needs}
+use Rattle.far_invariants.specs.Evictions.{Content, is_eviction_packet, is_eviction_of, eviction_count, RemoveIs, EvictionPacketIs, EvictionIs, StageIs, EvictionsAre}
 use Rattle.eviction_laws.proofs.Looking.{found_slot, there_same, under, slot_entry, slot_written, quiet_pass_keeps}
 use Rattle.eviction_laws.proofs.Onward.{eviction_any, no_eviction_of, turned, evictions_last, none_but_one}
-use Rattle.eviction_laws.specs.Evicting.{Onward}
+use Rattle.far_invariants.specs.Evictions.{Onward}
 use Rattle.eviction_laws.proofs.Rules.{SlotGoes, slot_rests, rules_keep}
 use Rattle.eviction_laws.proofs.Seating.{seats_move}
 use Rattle.eviction_laws.proofs.Steady.{is_steady, AreSteady, one_steady, no_steady, steady_bag, steady_none}

@@ -1,4 +1,5 @@
 -- Steps that touch no operation: they keep everything where servers' numbers rise and no slot goes that was still wanted.
+use Rattle.far_invariants.proofs.Noted.{member}
 use Rattle.std.proofs.Common.{◌≡◌, ℕ, ◌≤◌, max, ◌⊎◌, inl, inr, true, false, List, length, sym, ap, ◌∙◌, arith}
 use Rattle.std.specs.Prelude.{Option, Some, None, Bool, if◌then◌else◌}
 use Rattle.far_base.specs.PlanView.{PlanView}
@@ -9,10 +10,10 @@ use Rattle.far_invariants.specs.Invariants.{look, entry, reach, reach_by, IsWrit
 use Rattle.far_model.specs.Members.{Among, Each}
 use Rattle.far_model.specs.State.{State, client_at, now, noted}
 use Rattle.far_model.specs.View.{SlotView}
-use Rattle.run_laws.proofs.Controls.{IsControlNote, Nobody, note_is, note_off, note_sends, note_about, notes_rise, each_to}
-use Rattle.run_laws.proofs.Frame.{counted_on, AboutMine, NotOn, off_shows_each, member, shown_lasts, shown_within, Grows, written_lasts, left_lasts}
-use Rattle.run_laws.proofs.Keeps.{AdmitsOther, IsDrawn, Relies, IsOpenOrAnswered, Keeps}
-use Rattle.run_laws.proofs.Step.{IsOther, NoteIs, IsNoSending, sent_before, next}
+use Rattle.record_laws.proofs.Controls.{IsControlNote, Nobody, note_is, note_off, note_sends, note_about, notes_rise, each_to}
+use Rattle.record_laws.proofs.Frame.{counted_on, AboutMine, NotOn, off_shows_each, shown_lasts, shown_within, Grows, written_lasts, left_lasts}
+use Rattle.record_laws.proofs.Keeps.{AdmitsOther, IsDrawn, Relies, IsOpenOrAnswered, Keeps}
+use Rattle.record_laws.proofs.Step.{IsOther, NoteIs, IsNoSending, sent_before, next}
 
 pub record Rules (plan : PlanView) (notes : List LogEntry) (s t : State) : Type 0 where
   pub log : t.log ≡ noted s notes

@@ -200,7 +200,7 @@ impl<K: Keeper> World<K> {
         ensures history { Tells self.now.keeper.records → HasOneLegalHistory self.now.state.log }
         ensures answered { Tells self.now.keeper.records → runs.is_finished self.now.plan self.now.state ≡ true → AllAnswered self.now.plan self.now.state }
     {
-        far_laws::coherent_log();
+        history_laws::coherent_log();
         run_laws::uncached_runs_are_coherent();
         run_laws::finished_is_answered();
         &self.log

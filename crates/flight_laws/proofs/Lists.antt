@@ -2,6 +2,7 @@
 use Rattle.std.proofs.Common.{arith, ◌≡◌, ℕ, zero, suc, Bool, true, false, cond, List, [], ◌∷◌, set, get_or, replicate, refl, ap}
 use Rattle.std.specs.List.{sum_by}
 use Rattle.std.proofs.lemmas.List.Sums.{sum_by-cons}
+use Rattle.far_model.specs.Members.{Each}
 
 -- what holds of both branches
 pub by_test : {A : Type 0} (P : A → Type 0) (b : Bool) (x y : A) → P x → P y → P (cond b x y)
@@ -39,3 +40,8 @@ pub sum_by-set_same : {A : Type 0} (f : A → ℕ) (xs : List A) (i : ℕ) (x d 
 sum_by-set_same f [] i x d e = refl
 sum_by-set_same f (y ∷ ys) zero x d e = omega (arith, e, sum_by-cons f x ys, sum_by-cons f y ys)
 sum_by-set_same f (y ∷ ys) (suc i) x d e = omega (arith, sum_by-set_same f ys i x d e, sum_by-cons f y (set ys i x), sum_by-cons f y ys)
+
+-- what follows for each
+pub each_map : {A : Type 0} (P Q : A → Type 0) (xs : List A) → ((x : A) → P x → Q x) → Each P xs → Each Q xs
+each_map P Q [] f h = tt
+each_map P Q (x ∷ xs) f h = (f x h.0, each_map P Q xs f h.1)

@@ -20,7 +20,7 @@ use Rattle.far_model.specs.Members.{Each}
 use Rattle.far_model.specs.Parties.{Turn}
 use Rattle.far_model.specs.Runs.{run}
 use Rattle.far_model.specs.State.{State, opening}
-use Rattle.recovery_laws.specs.Recoveries.{IsNoRecovery, RecoversAfter}
+use Rattle.far_invariants.specs.Recoveries.{IsNoRecovery, RecoversAfter}
 use Rattle.recovery_laws.proofs.Rules.{wanted_calm, tick_calm, evict_calm, acknowledged_calm, peek_calm, removal_calm, stored_calm, begun_rule, part_rule, same_rule}
 
 abbrev Anything : Record → Type 0

@@ -31,9 +31,9 @@ use Rattle.far_model.specs.State.{State, client_at, records_at}
 use Rattle.far_model.specs.View.{entry_place, server_of}
 use Rattle.far_model.proofs.Members.{among_at}
 use Rattle.far_model.specs.Snapshots.{view_records}
-use Rattle.recovery_laws.specs.Needs.{IsAskedWell, CompletesSafely, Needs, IsGenuine}
-use Rattle.recovery_laws.specs.Recoveries.{last_or, recovered_last}
-use Rattle.recovery_laws.specs.Stops.{IsDrawnJob, InRound, IsUnderWay, Stops, Carried}
+use Rattle.far_invariants.specs.StopNeeds.{IsAskedWell, CompletesSafely, Needs, IsGenuine}
+use Rattle.far_invariants.specs.Recoveries.{last_or, recovered_last}
+use Rattle.far_invariants.specs.Stops.{IsDrawnJob, InRound, IsUnderWay, Stops, Carried}
 use Rattle.recovery_laws.proofs.Asking.{send_idles, release_idles, ask_idles}
 use Rattle.recovery_laws.proofs.Counting.{RoundGoesOn, round_is, told_goes_on, stored_goes_on, top_goes_on}
 use Rattle.recovery_laws.proofs.Passes.{IsCalmKind, passes_calm, pass_calm, write_step}
@@ -81,7 +81,7 @@ module _ (plan : PlanView) (kept : List Record) (s : State) (i : ℕ) (stops_s :
         stops_step plan kept kept (Its x) s t (remove s.bag i) new stops_s (calm_step plan kept (Its x) (pass_notes p (pass s.switch p)) s t (remove s.bag i) new stops_s
         (pass_calm plan kept s i x p (pass s.switch p) at (subst IsLight (sym is) light) runs stops_s calm)) (running_round runs t refl)
 
-    at_controller : (t : Turn ControllerState) → IsLight x.packet → IsRule (IsGenuine plan s) s.controller t → ((key : List ℕ) (num : ℕ) → Rattle.recovery_laws.specs.Needs.IsAbsorbedOn plan s.log key num → Rattle.far_invariants.specs.Covers.IsInSnapshot s key num → Rattle.far_invariants.specs.Covers.IsAtServer plan s key num ⊎ Rattle.far_invariants.specs.Covers.Covers (Rattle.far_model.specs.Snapshots.view_records t.state.last.views) key num)
+    at_controller : (t : Turn ControllerState) → IsLight x.packet → IsRule (IsGenuine plan s) s.controller t → ((key : List ℕ) (num : ℕ) → Rattle.far_invariants.specs.StopNeeds.IsAbsorbedOn plan s.log key num → Rattle.far_invariants.specs.Covers.IsInSnapshot s key num → Rattle.far_invariants.specs.Covers.IsAtServer plan s key num ⊎ Rattle.far_invariants.specs.Covers.Covers (Rattle.far_model.specs.Snapshots.view_records t.state.last.views) key num)
         → RoundGoesOn plan kept (controller_turn s (remove s.bag i) t) → Stops plan kept (controller_turn s (remove s.bag i) t)
     at_controller t light rule snapshot round =
         stops_step plan kept kept (Its x) s (controller_turn s (remove s.bag i) t) (remove s.bag i) (messages_from Controller t.out) stops_s
@@ -90,7 +90,7 @@ module _ (plan : PlanView) (kept : List Record) (s : State) (i : ℕ) (stops_s :
     calm_controller : (t : Turn ControllerState) → x.from ≡ Switch → IsLight x.packet → IsCalmRule (IsGenuine plan s) s.controller t → Stops plan kept (controller_turn s (remove s.bag i) t)
     calm_controller t from light calm = at_controller t light calm.rule (calm_snapshot plan s t calm.last) (λ r e. switch_round from (controller_turn s (remove s.bag i) t) calm.round r e)
 
-    job_controller : (t : Turn ControllerState) → x.from ≡ Switch → IsLight x.packet → IsJobTurn (IsGenuine plan s) plan.config s.controller (Rattle.recovery_laws.specs.Needs.next_job s.controller x.packet) t → Stops plan kept (controller_turn s (remove s.bag i) t)
+    job_controller : (t : Turn ControllerState) → x.from ≡ Switch → IsLight x.packet → IsJobTurn (IsGenuine plan s) plan.config s.controller (Rattle.far_invariants.specs.StopNeeds.next_job s.controller x.packet) t → Stops plan kept (controller_turn s (remove s.bag i) t)
     job_controller t from light job = at_controller t light job.rule (job_snapshot plan s x.packet t (needs.owed.completes x there) job.last) (λ r e. switch_round from (controller_turn s (remove s.bag i) t) job.round r e)
 
     number_below : (r : Round) → s.controller.round ≡ Some r → r.number < s.controller.next_round

@@ -1,4 +1,5 @@
 -- Passes of the switch: all are calm but that of a write, which gets a number and may be absorbed.
+use Rattle.far_invariants.proofs.Noted.{IsNote, member, note_member, log_cases}
 use Rattle.std.proofs.Common.{◌≡◌, ℕ, zero, suc, ◌+◌, ◌≤◌, ◌⊎◌, inl, inr, Bool, true, false, List, [], ◌∷◌, ◌++◌, refl, sym, ap, ◌∙◌, subst, arith}
 use Rattle.std.specs.Prelude.{Option, Some, None, slice_get, if◌then◌else◌, ◌&&◌, not, nat_eq}
 use Rattle.std.specs.List.{remove}
@@ -23,9 +24,8 @@ use Rattle.far_model.specs.State.{State, client_at, line_at, now, noted}
 use Rattle.far_model.specs.View.{SlotView, SwitchView, slot_at, entry_place, server_of, is_taken, empty_slot, shown_body, bind_key, held_record}
 use Rattle.far_model.proofs.Members.{among_at, among_append_right}
 use Rattle.flight_laws.proofs.Lists.{by_test}
-use Rattle.run_laws.proofs.Frame.{IsNote, log_cases, member, note_member}
-use Rattle.recovery_laws.specs.Needs.{IsAbsorbedOn, IsAskedWell, Needs, IsGenuine}
-use Rattle.recovery_laws.specs.Stops.{Outlives, IsNewest, IsDrawnJob, Stops, IsKeptAnswer, Carried}
+use Rattle.far_invariants.specs.StopNeeds.{IsAbsorbedOn, IsAskedWell, Needs, IsGenuine}
+use Rattle.far_invariants.specs.Stops.{Outlives, IsNewest, IsDrawnJob, Stops, IsKeptAnswer, Carried}
 use Rattle.recovery_laws.proofs.RoundSteps.{is_round_packet}
 use Rattle.recovery_laws.proofs.Steps.{Its, leaves_taken, Step, NumberArrives, IsQuiet, IsCalm, IsLight, IsUnkept, light_gone, unkept_newest, same_newest, same_preserved, same_above, unkept_answer, written_above}
 

@@ -1,4 +1,5 @@
 -- Turns of the controller.
+use Rattle.far_invariants.proofs.Noted.{member}
 use Rattle.std.proofs.Common.{◌≡◌, ℕ, zero, suc, ◌+◌, ◌-◌, ◌<◌, ◌≤◌, ◌⊎◌, inl, inr, Bool, true, false, List, [], ◌∷◌, ◌++◌, length, refl, sym, subst, arith}
 use Rattle.std.specs.Prelude.{Option, Some, None, slice_index_or, slice_set, slice_get, if◌then◌else◌, ◌&&◌, not, nat_eq, nat_le, nat_lt, is_some}
 use Rattle.std.proofs.lemmas.Option.{same_Some}
@@ -26,9 +27,8 @@ use Rattle.far_model.specs.Snapshots.{Job, has_begun, has_part, is_whole, comple
 use Rattle.far_model.specs.State.{State}
 use Rattle.far_model.proofs.Members.{among_map_from, each_among}
 use Rattle.flight_laws.proofs.Lists.{by_test}
-use Rattle.run_laws.proofs.Frame.{member}
-use Rattle.recovery_laws.specs.Needs.{IsAbsorbedOn, CompletesSafely, next_job, begun_job, part_job, same_job, same_view_job, IsGenuine}
-use Rattle.recovery_laws.specs.Stops.{Outlives, IsDrawnJob, Stops, Carried}
+use Rattle.far_invariants.specs.StopNeeds.{IsAbsorbedOn, CompletesSafely, next_job, begun_job, part_job, same_job, same_view_job, IsGenuine}
+use Rattle.far_invariants.specs.Stops.{Outlives, IsDrawnJob, Stops, Carried}
 use Rattle.recovery_laws.proofs.Steps.{Leaves, Step, HasArrived, IsQuiet, IsUnkept, unkept_newest, same_newest, same_preserved, same_above, quiet_numbered, quiet_absorbed, quiet_differ, unkept_answer}
 
 -- a note of the controller

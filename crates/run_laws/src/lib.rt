@@ -1,8 +1,18 @@
-//! The laws of runs: functions with no code, whose contracts are what holds in every state of every run.
+//! What holds in every state of every run of every valid plan, with all orders, evictions, snapshots, stops and
+//! recoveries: functions with no code, whose contracts are the theorems of the cache. What holds whatever keepers answer
+//! is in the laws of flights; a run is one of those by `flight_laws::runs_are_kept_runs`.
 #![tactic(auto)]
 
-mod finished;
-mod runs;
+mod evictions;
+mod histories;
+mod recoveries;
+mod records;
+mod slots;
+mod snapshots;
 
-pub use finished::{every_operation_is_sent, finished_is_answered};
-pub use runs::{lasting_runs_are_coherent, uncached_runs_are_coherent};
+pub use evictions::evictions_are_safe;
+pub use histories::{answers_are_current, runs_have_one_history};
+pub use records::records_are_written;
+pub use recoveries::{absorbed_is_kept, releases_are_safe, restarts_restore, rounds_are_served};
+pub use slots::{slots_are_owned, slots_stand_with_any_keeper};
+pub use snapshots::{snapshots_are_cuts, snapshots_are_gathered, snapshots_are_served};

@@ -1,7 +1,0 @@
-pub mod Exposed
-pub mod Facts
-pub mod Places
-pub mod Told
-pub mod Unique
-pub mod Walk
-pub mod Remembered

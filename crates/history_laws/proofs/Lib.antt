@@ -1,0 +1,6 @@
+pub mod Exposed
+pub mod Facts
+pub mod Places
+pub mod Told
+pub mod Unique
+pub mod Walk

@@ -1,9 +1,0 @@
-pub mod Ceilings
-pub mod Counters
-pub mod Holding
-pub mod KeptRuns
-pub mod Numbers
-pub mod Runs
-pub mod Steady
-pub mod Steps
-pub mod Stopped

@@ -1,8 +1,0 @@
-use Rattle.joined_laws.proofs.KeptRuns.{kept_lowers, kept_quiet}
-use Rattle.joined_laws.proofs.kept_runs_come_to_their_end.Goals as goal
-
-pub returns-clause-lowers : goal.returns-clause-lowers
-returns-clause-lowers c plan events valid r e keeping answers can = kept_lowers plan events valid r e keeping answers can
-
-pub returns-clause-quiet : goal.returns-clause-quiet
-returns-clause-quiet c plan events valid r = kept_quiet plan events valid r

@@ -1,2 +1,0 @@
-pub mod Flown
-pub mod Numbers

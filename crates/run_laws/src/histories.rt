@@ -1,0 +1,32 @@
+//! The history of every run.
+
+ghost use Rattle.std.specs.Prelude.{◌≡◌, ℕ, ◌≤◌, List, Some};
+ghost use Rattle.far_base.specs.PlanView.{PlanView};
+ghost use Rattle.far_base.specs.declared.log.Placed.{Placed};
+ghost use Rattle.far_model.specs.Coherent.{IsCoherent};
+ghost use Rattle.far_model.specs.History.{IsHistory, IsLinearizable, key_of};
+ghost use Rattle.far_model.specs.Log.{At, exposed, numbering};
+ghost use Rattle.far_model.specs.Members.{Among};
+ghost use Rattle.far_invariants.specs.Always.{Always};
+ghost use Rattle.far_invariants.specs.ClientOrder.{KeepsClientOrder};
+ghost use Rattle.far_invariants.specs.Invariants.{AnswersAreCurrent, LogIsSound, NumbersAreSound};
+
+/// Across all stops the log is coherent, so its history is legal and keeps real-time order, each client's own order with
+/// it. A write whose number an answer has shown stands in the history, also where it is not answered yet.
+pub fn runs_have_one_history()
+    ensures coherent { Always (λ plan events s. IsCoherent s.log) }
+    ensures linearizable { Always (λ plan events s. (history : List Placed) → IsHistory s.log history → IsLinearizable s.log history) }
+    ensures by_client { Always (λ plan events s. (history : List Placed) → IsHistory s.log history → KeepsClientOrder s.log history) }
+    ensures exposed { Always (λ plan events s. (history : List Placed) (op moment : ℕ) (own : At ℕ) → IsHistory s.log history → numbering s.log op ≡ Some own → own.what ≤ exposed s.log (key_of s.log op) moment → (place : Placed) × (place.op ≡ op) × Among place history) }
+{
+    history_laws::coherent_log();
+    history_laws::all_placed();
+}
+
+/// Each read is answered with at least what was exposed when it was sent, and each write with at least its own number;
+/// servers, slots and replies are current, and what they hold was written.
+pub fn answers_are_current()
+    ensures current { Always (λ plan events s. AnswersAreCurrent s.log) }
+    ensures logs { Always (λ plan events s. LogIsSound plan s) }
+    ensures numbers { Always (λ plan events s. NumbersAreSound plan s) }
+{}
