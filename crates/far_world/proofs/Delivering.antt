@@ -1,167 +1,312 @@
--- What a delivery does in a world without a cache, by its addressee.
-use Rattle.std.proofs.Common.{◌≡◌, ℕ, ◌<◌, ◌≤◌, ◌+◌, List, [], ◌∷◌, ◌++◌, length, map, refl, sym, ap, ◌∙◌, Some, None, arith}
-use Rattle.std.proofs.lemmas.List.{append-nil, length-set}
+-- What an event makes of all parties, from what each party's turn makes of them.
+use Rattle.std.proofs.Common.{◌≡◌, ℕ, zero, suc, ◌+◌, ◌<◌, ◌≤◌, max, Bool, true, false, cond, List, [], ◌∷◌, ◌++◌, length, refl, sym, ap, ◌∙◌, subst, Some, None, arith, length-append}
+use Rattle.std.proofs.lemmas.List.Sums.{sum_by-cons}
 use Rattle.std.proofs.lemmas.Option.{same_Some}
+use Rattle.std.specs.List.{count_by, remove}
 use Rattle.std.specs.Option.{option_map}
-use Rattle.std.specs.Prelude.{Option, IfSome, is_some, slice_get, slice_set}
-use Rattle.std.specs.List.{remove}
+use Rattle.std.specs.Prelude.{IfSome, Option, is_some, slice_get, slice_set}
+use Rattle.far_base.specs.Limits.{IsPlan, is_slot_order, is_snap, is_stop}
 use Rattle.far_base.specs.PlanView.{PlanView}
-use Rattle.far_base.specs.declared.event.Event.TheVariants.{Send, Deliver}
 use Rattle.far_base.specs.declared.event.Event.{Event}
+use Rattle.far_base.specs.declared.event.Event.TheVariants.{Send, Deliver, Tick, Recover, Restart, Order as OrderOf}
 use Rattle.far_base.specs.declared.packet.Message.{Message}
 use Rattle.far_base.specs.declared.packet.Packet.{Packet}
-use Rattle.far_base.specs.declared.packet.Packet.TheVariants.{GetReq, WriteReq, GetFwd, WriteFwd, GetRep, WriteRep, GetAns, WriteAns}
+use Rattle.far_base.specs.declared.packet.Packet.TheVariants.{GetFwd, WriteFwd, GetRep, WriteRep, Store, TopAsk, TopIs}
+use Rattle.far_base.specs.declared.party.Party.{Party}
 use Rattle.far_base.specs.declared.party.Party.TheVariants.{Client, Switch, Server, Controller}
-use Rattle.far_base.specs.declared.plan.Config.{Config}
-use Rattle.far_base.specs.declared.plan.OpLine.{OpLine}
+use Rattle.far_base.specs.declared.plan.Order.{Order}
+use Rattle.far_base.specs.declared.plan.Order.TheVariants.{Admit, Evict, Snap, Stop, StopAt}
+use Rattle.far_base.specs.declared.plan.TheConstants.{ORDER_LIMIT, SNAP_LIMIT, STOP_LIMIT}
 use Rattle.far_base.specs.declared.record.Record.{Record}
-use Rattle.far_history.specs.RoomyLog.{RoomyLog}
-use Rattle.far_model.specs.Clients.{ClientState, client_takes, closed}
-use Rattle.far_model.specs.Events.{happens, keeping_of, next_sent, reply_goes_to}
-use Rattle.far_model.specs.Parties.{messages_from}
-use Rattle.far_model.specs.Pass.{pass, passed_out, pass_notes}
-use Rattle.far_model.specs.Replies.{IsReplyTo, AnswersInKind}
-use Rattle.far_model.specs.Servers.{server_keeps, server_reply}
-use Rattle.far_model.specs.State.{State, client_at, line_at}
-use Rattle.far_invariants.specs.Uncached.{GoesTo}
-use Rattle.far_model.specs.View.{opening_view, server_of}
+use Rattle.far_invariants.specs.Addressed.{ComesTo, ComesToServer}
+use Rattle.far_model.specs.Clients.{client_takes}
+use Rattle.far_model.specs.Controller.{ControllerState, controller_takes, ready, tick}
+use Rattle.far_model.specs.Events.{Keeping, all_listed, does_order, handled, happens, happens_with, keeping_of, reply_message, restarts, server_turn, ticks}
+use Rattle.far_model.specs.Members.{Each}
+use Rattle.far_model.specs.Parties.{Turn, messages_from}
+use Rattle.far_model.specs.Pass.{pass, passed_out}
+use Rattle.far_model.specs.Replies.{IsReplyTo, KeepersAnswer, ceiling_after}
+use Rattle.far_model.specs.Servers.{put_number, reply_number, server_keeps, server_reply}
+use Rattle.far_model.specs.State.{State, client_at, records_at}
 use Rattle.far_outside.specs.Keeping.{records_of}
+use Rattle.far_world.specs.Happening.{IsCalm, IsForOthers}
+use Rattle.far_world.specs.Standing.{unasked}
+use Rattle.far_world.specs.Scene.{Scene, Tells, told_by}
+use Rattle.far_world.specs.Serving.{IsRestarted, IsServed}
+use Rattle.far_world.specs.Steps.{IsAfter}
 use Rattle.server_keeper.specs.Step.{IsForServer, after_packet, number_in, number_of_reply}
-use Rattle.far_world.specs.WorldView.{IsAfter, Logs, Tells, answered_in, number_of, state_of, told_by}
 
-pub client_within : (config : Config) (packet : Packet) (c : ℕ) → GoesTo config packet (Client c) → c < config.clients
-client_within config (GetAns caller op key num body near) c h = let e : c ≡ caller = cc (h.0) in rw e h.1
-client_within config (WriteAns caller op key num kept) c h = let e : c ≡ caller = cc (h.0) in rw e h.1
-client_within config (GetReq caller op key) c h = absurd (cc (h.0))
-client_within config (WriteReq caller op key body) c h = absurd (cc (h.0))
-client_within config (GetFwd caller op key tag) c h = absurd (cc (h.0))
-client_within config (WriteFwd caller op key num body) c h = absurd (cc (h.0))
-client_within config (GetRep caller op key tag num body) c h = absurd (cc (h.0))
-client_within config (WriteRep caller op key num body) c h = absurd (cc (h.0))
-client_within config _ c h = absurd h
+-- ---- a message is taken out once it was handled
 
-pub server_within : (config : Config) (packet : Packet) (n : ℕ) → 0 < config.servers → GoesTo config packet (Server n) → n < config.servers
-server_within config (GetFwd caller op key tag) n l h = let e : n ≡ server_of config key = cc (h.0) in rw e (omega arith)
-server_within config (WriteFwd caller op key num body) n l h = let e : n ≡ server_of config key = cc (h.0) in rw e (omega arith)
-server_within config (GetReq caller op key) n l h = absurd (cc (h.0))
-server_within config (WriteReq caller op key body) n l h = absurd (cc (h.0))
-server_within config (GetRep caller op key tag num body) n l h = absurd (cc (h.0))
-server_within config (WriteRep caller op key num body) n l h = absurd (cc (h.0))
-server_within config (GetAns caller op key num body near) n l h = absurd (cc (h.0))
-server_within config (WriteAns caller op key num kept) n l h = absurd (cc (h.0))
-server_within config _ n l h = absurd h
+pub place_within : {A : Type 0} → (xs : List A) (i : ℕ) (a : A) → slice_get xs i ≡ Some a → i < length xs
+place_within [] i a h = absurd cc
+place_within (x ∷ xs) zero a h = omega arith
+place_within (x ∷ xs) (suc i) a h = let less = place_within xs i a h in omega (arith, less)
 
-pub forward_kind : (config : Config) (packet : Packet) (n : ℕ) → GoesTo config packet (Server n) → IsForServer packet
-forward_kind config (GetFwd caller op key tag) n h = tt
-forward_kind config (WriteFwd caller op key num body) n h = tt
-forward_kind config (GetReq caller op key) n h = absurd (cc (h.0))
-forward_kind config (WriteReq caller op key body) n h = absurd (cc (h.0))
-forward_kind config (GetRep caller op key tag num body) n h = absurd (cc (h.0))
-forward_kind config (WriteRep caller op key num body) n h = absurd (cc (h.0))
-forward_kind config (GetAns caller op key num body near) n h = absurd (cc (h.0))
-forward_kind config (WriteAns caller op key num kept) n h = absurd (cc (h.0))
-forward_kind config _ n h = absurd h
+remove_front : {A : Type 0} → (xs ys : List A) (i : ℕ) → i < length xs → remove (xs ++ ys) i ≡ remove xs i ++ ys
+remove_front [] ys i h = absurd (omega arith)
+remove_front (x ∷ xs) ys zero h = refl
+remove_front (x ∷ xs) ys (suc i) h = ap (λ zs. x ∷ zs) (remove_front xs ys i (omega arith))
 
--- the reply goes to the switch with the number that it has, and a put has the number of the packet
-abbrev pub IsAnswered : Packet → Packet → Type 0
-IsAnswered packet reply = (reply_goes_to reply ≡ Switch) × (number_of reply ≡ number_of_reply reply) × (number_in packet ≤ number_of packet)
+-- what a party sends
+sent_by : PlanView → Keeping → State → Party → Packet → List Message
+sent_by plan k s (Client c) packet = messages_from (Client c) (client_takes plan.ops c (client_at s c) packet).out
+sent_by plan k s Switch packet = messages_from Switch (passed_out (pass s.switch packet))
+sent_by plan k s (Server n) packet = reply_message n k.reply
+sent_by plan k s Controller packet = messages_from Controller (controller_takes plan.config s.controller packet).out
 
-pub goes_back : (config : Config) (packet : Packet) (n : ℕ) (reply : Packet) → GoesTo config packet (Server n) → IsReplyTo n packet (Some reply) → IsAnswered packet reply
-goes_back config (GetFwd caller op key tag) n reply h k = let e = same_Some _ _ k.is in (rw e refl, rw e refl, omega arith)
-goes_back config (WriteFwd caller op key num body) n reply h k = let e = same_Some _ _ k.is in (rw e refl, rw e refl, omega arith)
-goes_back config (GetReq caller op key) n reply h k = absurd (cc (h.0))
-goes_back config (WriteReq caller op key body) n reply h k = absurd (cc (h.0))
-goes_back config (GetRep caller op key tag num body) n reply h k = absurd (cc (h.0))
-goes_back config (WriteRep caller op key num body) n reply h k = absurd (cc (h.0))
-goes_back config (GetAns caller op key num body near) n reply h k = absurd (cc (h.0))
-goes_back config (WriteAns caller op key num kept) n reply h k = absurd (cc (h.0))
-goes_back config _ n reply h k = absurd h
+module _ (plan : PlanView) (k : Keeping) (s : State) where
+  handled_bag : (rest : List Message) (to : Party) (packet : Packet) → (handled plan k s rest to packet).bag ≡ rest ++ sent_by plan k s to packet
+  unfolding sent_by
+  handled_bag rest (Client c) packet = refl
+  handled_bag rest Switch packet = refl
+  handled_bag rest (Server n) packet = refl
+  handled_bag rest Controller packet = refl
 
-pub no_controller : (config : Config) (packet : Packet) → GoesTo config packet Controller → ⊥
-no_controller config (GetReq caller op key) h = cc (h.0)
-no_controller config (WriteReq caller op key body) h = cc (h.0)
-no_controller config (GetFwd caller op key tag) h = cc (h.0)
-no_controller config (WriteFwd caller op key num body) h = cc (h.0)
-no_controller config (GetRep caller op key tag num body) h = cc (h.0)
-no_controller config (WriteRep caller op key num body) h = cc (h.0)
-no_controller config (GetAns caller op key num body near) h = cc (h.0)
-no_controller config (WriteAns caller op key num kept) h = cc (h.0)
-no_controller config _ h = h
+  handled_rest : (rest : List Message) (to : Party) (packet : Packet) → record (handled plan k s s.bag to packet) { bag = rest ++ sent_by plan k s to packet } ≡ handled plan k s rest to packet
+  unfolding sent_by
+  handled_rest rest (Client c) packet = refl
+  handled_rest rest Switch packet = refl
+  handled_rest rest (Server n) packet = refl
+  handled_rest rest Controller packet = refl
 
-client_turn_is : (config : Config) (ops : List OpLine) (c : ℕ) (client : ClientState) (packet : Packet) → GoesTo config packet (Client c)
-    → client_takes ops c client packet ≡ record { state = closed client; out = []; notes = answered_in packet }
-client_turn_is config ops c client (GetAns caller op key num body near) h = refl
-client_turn_is config ops c client (WriteAns caller op key num kept) h = rw h.2 refl
-client_turn_is config ops c client (GetReq caller op key) h = absurd (cc (h.0))
-client_turn_is config ops c client (WriteReq caller op key body) h = absurd (cc (h.0))
-client_turn_is config ops c client (GetFwd caller op key tag) h = absurd (cc (h.0))
-client_turn_is config ops c client (WriteFwd caller op key num body) h = absurd (cc (h.0))
-client_turn_is config ops c client (GetRep caller op key tag num body) h = absurd (cc (h.0))
-client_turn_is config ops c client (WriteRep caller op key num body) h = absurd (cc (h.0))
-client_turn_is config ops c client _ h = absurd h
+  pub still_there : (place : ℕ) (m : Message) (to : Party) (packet : Packet) → slice_get s.bag place ≡ Some m → place < length (handled plan k s s.bag to packet).bag
+  still_there place m to packet there = let less = place_within s.bag place m there in
+      omega (arith, less, ap length (handled_bag s.bag to packet), length-append s.bag (sent_by plan k s to packet))
 
--- what happens by the rule of a server is what follows
-pub by_rule : (plan : PlanView) (s : State) (e : Event) (t : State) → AnswersInKind s e (keeping_of s e) → length t.servers ≡ length s.servers → t ≡ happens plan s e → IsAfter plan s e t
-by_rule plan s e t answers count h = record { keeping = keeping_of s e; answers = answers; after = ap (λ (z : State). record z { servers = t.servers }) h; servers = count }
+  pub taken_out : (place : ℕ) (from to : Party) (packet : Packet) → slice_get s.bag place ≡ Some (record { from = from; to = to; packet = packet })
+      → record (handled plan k s s.bag to packet) { bag = remove (handled plan k s s.bag to packet).bag place } ≡ happens_with plan k s (Deliver place)
+  taken_out place from to packet there =
+      let less = place_within s.bag place (record { from = from; to = to; packet = packet }) there in
+      rw there (ap (λ (bag : List Message). record (handled plan k s s.bag to packet) { bag = bag }) (ap (λ (bag : List Message). remove bag place) (handled_bag s.bag to packet) ∙ remove_front s.bag (sent_by plan k s to packet) place less)
+      ∙ handled_rest (remove s.bag place) to packet)
 
--- a keeper goes on telling its records, or goes on telling none
-pub tells_on : {A B : Type 0} → (f : A → B) (o : Option A) → is_some (option_map f o) ≡ is_some o
+-- ---- events in which no keeper is asked
+
+module _ (plan : PlanView) (s : State) where
+  ticks_servers : (t : Option (Turn ControllerState)) → (ticks s t).servers ≡ s.servers
+  ticks_servers None = refl
+  ticks_servers (Some t) = refl
+
+  order_servers : (order : Option Order) → (does_order plan s order).servers ≡ s.servers
+  order_servers None = refl
+  order_servers (Some (Admit step key)) = refl
+  order_servers (Some (Evict step key)) = refl
+  order_servers (Some (Snap step)) = refl
+  order_servers (Some (Stop step)) = refl
+  order_servers (Some (StopAt kind times)) = refl
+
+  calm_servers : (e : Event) → IsCalm e → (happens_with plan unasked s e).servers ≡ s.servers
+  calm_servers (Send c) h = refl
+  calm_servers (Deliver i) h = absurd h
+  calm_servers Tick h = ticks_servers (tick s.controller)
+  calm_servers Recover h = refl
+  calm_servers Restart h = absurd h
+  calm_servers (OrderOf j) h = order_servers (slice_get plan.orders j)
+
+  calm_same : (k : Keeping) (e : Event) → IsCalm e → happens_with plan unasked s e ≡ happens_with plan k s e
+  calm_same k (Send c) h = refl
+  calm_same k (Deliver i) h = absurd h
+  calm_same k Tick h = refl
+  calm_same k Recover h = refl
+  calm_same k Restart h = absurd h
+  calm_same k (OrderOf j) h = refl
+
+  calm_answers : (ceiling : ℕ) (e : Event) → IsCalm e → KeepersAnswer ceiling s e unasked
+  calm_answers ceiling (Send c) h = record { kind = tt; within = tt }
+  calm_answers ceiling (Deliver i) h = absurd h
+  calm_answers ceiling Tick h = record { kind = tt; within = tt }
+  calm_answers ceiling Recover h = record { kind = tt; within = tt }
+  calm_answers ceiling Restart h = absurd h
+  calm_answers ceiling (OrderOf j) h = record { kind = tt; within = tt }
+
+  calm_ceiling : (ceiling : ℕ) (e : Event) → IsCalm e → ceiling_after s e ceiling ≡ ceiling
+  calm_ceiling ceiling (Send c) h = refl
+  calm_ceiling ceiling (Deliver i) h = absurd h
+  calm_ceiling ceiling Tick h = refl
+  calm_ceiling ceiling Recover h = refl
+  calm_ceiling ceiling Restart h = absurd h
+  calm_ceiling ceiling (OrderOf j) h = refl
+
+  module _ (place : ℕ) (from : Party) (packet : Packet) where
+    others_servers : (to : Party) → IsForOthers to → slice_get s.bag place ≡ Some (record { from = from; to = to; packet = packet }) → (happens_with plan unasked s (Deliver place)).servers ≡ s.servers
+    others_servers (Client c) h there = rw there refl
+    others_servers Switch h there = rw there refl
+    others_servers (Server n) h there = absurd h
+    others_servers Controller h there = rw there refl
+
+    others_same : (k : Keeping) (to : Party) → IsForOthers to → slice_get s.bag place ≡ Some (record { from = from; to = to; packet = packet }) → happens_with plan unasked s (Deliver place) ≡ happens_with plan k s (Deliver place)
+    others_same k (Client c) h there = rw there refl
+    others_same k Switch h there = rw there refl
+    others_same k (Server n) h there = absurd h
+    others_same k Controller h there = rw there refl
+
+    others_answers : (ceiling : ℕ) (to : Party) → IsForOthers to → slice_get s.bag place ≡ Some (record { from = from; to = to; packet = packet }) → KeepersAnswer ceiling s (Deliver place) unasked
+    others_answers ceiling (Client c) h there = record { kind = rw there tt; within = rw there tt }
+    others_answers ceiling Switch h there = record { kind = rw there tt; within = rw there tt }
+    others_answers ceiling (Server n) h there = absurd h
+    others_answers ceiling Controller h there = record { kind = rw there tt; within = rw there tt }
+
+    others_ceiling : (ceiling : ℕ) (to : Party) → IsForOthers to → slice_get s.bag place ≡ Some (record { from = from; to = to; packet = packet }) → ceiling_after s (Deliver place) ceiling ≡ ceiling
+    others_ceiling ceiling (Client c) h there = rw there refl
+    others_ceiling ceiling Switch h there = rw there refl
+    others_ceiling ceiling (Server n) h there = absurd h
+    others_ceiling ceiling Controller h there = rw there refl
+
+unasked_after : (old new : Scene) (e : Event) → new ≡ record old { state = happens_with old.plan unasked old.state e } → old.state.servers ≡ told_by old.plan.config.servers old.keeper.records
+    → KeepersAnswer old.keeper.ceiling old.state e unasked → (happens_with old.plan unasked old.state e).servers ≡ old.state.servers
+    → happens_with old.plan unasked old.state e ≡ happens old.plan old.state e → ceiling_after old.state e old.keeper.ceiling ≡ old.keeper.ceiling → IsAfter old e new
+unasked_after old new e is shown answers servers same ceiling = rw is (record {
+  plan = refl;
+  keeping = unasked;
+  answers = answers;
+  state = refl;
+  told = λ tells. same;
+  tells = refl;
+  records = servers ∙ shown;
+  servers = refl;
+  ceiling = sym ceiling;
+  later = omega arith;
+})
+
+pub calm_after : (old new : Scene) (e : Event) → IsCalm e → new ≡ record old { state = happens_with old.plan unasked old.state e } → old.state.servers ≡ told_by old.plan.config.servers old.keeper.records → IsAfter old e new
+calm_after old new e calm is shown = unasked_after old new e is shown (calm_answers old.plan old.state old.keeper.ceiling e calm) (calm_servers old.plan old.state e calm) (calm_same old.plan old.state (keeping_of old.state e) e calm) (calm_ceiling old.plan old.state old.keeper.ceiling e calm)
+
+pub others_after : (old new : Scene) (place : ℕ) (from to : Party) (packet : Packet) → IsForOthers to → slice_get old.state.bag place ≡ Some (record { from = from; to = to; packet = packet })
+    → new ≡ record old { state = happens_with old.plan unasked old.state (Deliver place) } → old.state.servers ≡ told_by old.plan.config.servers old.keeper.records → IsAfter old (Deliver place) new
+others_after old new place from to packet others there is shown = unasked_after old new (Deliver place) is shown (others_answers old.plan old.state place from packet old.keeper.ceiling to others there) (others_servers old.plan old.state place from packet to others there)
+    (others_same old.plan old.state place from packet (keeping_of old.state (Deliver place)) to others there) (others_ceiling old.plan old.state place from packet old.keeper.ceiling to others there)
+
+-- ---- a server
+
+pub for_server : (packet : Packet) → ComesToServer packet → IsForServer packet
+for_server (GetFwd caller op key tag) h = tt
+for_server (WriteFwd caller op key num body) h = tt
+for_server (Store job item) h = tt
+for_server (TopAsk round) h = tt
+for_server _ h = absurd h
+
+same_reply_number : (packet : Packet) → reply_number packet ≡ number_of_reply packet
+same_reply_number (GetRep caller op key tag num body) = refl
+same_reply_number (WriteRep caller op key num body) = refl
+same_reply_number (TopIs round server top) = refl
+same_reply_number _ = refl
+
+same_put_number : (packet : Packet) → put_number packet ≡ number_in packet
+same_put_number (WriteFwd caller op key num body) = refl
+same_put_number (Store job item) = refl
+same_put_number _ = refl
+
+record IsToldTurn (s : State) (n : ℕ) (packet reply : Packet) (servers : List (List Record)) : Type 0 where
+  pub reply_is : server_reply n (records_at s n) packet ≡ Some reply
+  pub servers_are : servers ≡ slice_set s.servers n (server_keeps (records_at s n) packet)
+
+told_turn : (s : State) (n count : ℕ) (packet reply : Packet) (o : Option (List (List Record))) → s.servers ≡ told_by count o → Tells o → IfSome o (λ all. Some reply ≡ server_reply n (records_of all n) packet)
+    → IsToldTurn s n packet reply (told_by count (option_map (after_packet n packet) o))
+told_turn s n count packet reply None shown tells is = absurd cc
+told_turn s n count packet reply (Some all) shown tells is = record { reply_is = rw shown (sym is); servers_are = rw shown refl }
+
+tells_on : {A B : Type 0} → (f : A → B) (o : Option A) → is_some (option_map f o) ≡ is_some o
 tells_on f None = refl
 tells_on f (Some x) = refl
 
-pub same_count : (servers n : ℕ) (packet : Packet) (o : Option (List (List Record))) → length (told_by servers (option_map (after_packet n packet) o)) ≡ length (told_by servers o)
-same_count servers n packet None = refl
-same_count servers n packet (Some all) = length-set all n (server_keeps (records_of all n) packet)
+pub server_after : (old mid new : Scene) (place n : ℕ) (from : Party) (packet : Packet) → slice_get old.state.bag place ≡ Some (record { from = from; to = Server n; packet = packet })
+    → IsServed n packet old mid → new ≡ record mid { state = record mid.state { bag = remove mid.state.bag place } } → old.state.servers ≡ told_by old.plan.config.servers old.keeper.records → old.keeper.faults ≤ mid.keeper.faults
+    → IsAfter old (Deliver place) new
+server_after old mid new place n from packet there h is shown later = rw is (record {
+  plan = h.plan;
+  keeping = k;
+  answers = record {
+    kind = rw there h.kind;
+    within = rw there (let e = ap (λ (num : ℕ). max old.keeper.ceiling num) (same_put_number packet) in omega (arith, h.within, same_reply_number h.reply, h.ceiling, e));
+  };
+  state = moved ∙ ap (λ (servers : List (List Record)). record (happens_with old.plan k old.state (Deliver place)) { servers = servers }) (sym shown_there);
+  told = λ tells.
+      let t = told_turn old.state n old.plan.config.servers packet h.reply old.keeper.records shown tells h.told in
+      moved ∙ (ap (λ (servers : List (List Record)). record (happens_with old.plan k old.state (Deliver place)) { servers = servers }) (ap (told_by old.plan.config.servers) h.records ∙ t.servers_are)
+      ∙ by_rule t);
+  tells = ap is_some h.records ∙ tells_on (after_packet n packet) old.keeper.records;
+  records = shown_there ∙ ap (λ (p : PlanView). told_by p.config.servers mid.keeper.records) (sym h.plan);
+  servers = h.servers;
+  ceiling = rw there (h.ceiling ∙ ap (λ (num : ℕ). max old.keeper.ceiling num) (sym (same_put_number packet)));
+  later = later;
+})
+  where
+    k : Keeping
+    k = record { reply = Some h.reply; records = [] }
 
-pub send_after : (plan : PlanView) (counter : ℕ) (clients : List ClientState) (records : Option (List (List Record))) (bag : List Message) (log : RoomyLog) (c : ℕ) (ops : List OpLine) (client new : ClientState) (bag' : List Message)
-    (log' : RoomyLog) → ops ≡ plan.ops → client ≡ client_at (state_of plan counter clients records bag log) c → new ≡ (next_sent ops c client client.left).state
-    → bag' ≡ bag ++ messages_from (Client c) (next_sent ops c client client.left).out → Logs log log' (next_sent ops c client client.left).notes
-    → state_of plan counter (slice_set clients c new) records bag' log' ≡ happens plan (state_of plan counter clients records bag log) (Send c)
-send_after plan counter clients records bag log c ops client new bag' log' same is en eb el = λ i. record (state_of plan counter clients records bag log) {
-  clients = slice_set clients c ((en ∙ (λ j. (next_sent (same j) c (is j) (is j).left).state)) i);
-  bag = (eb ∙ (λ j. bag ++ messages_from (Client c) (next_sent (same j) c (is j) (is j).left).out)) i;
-  steps = el.steps i;
-  log = (el.lines ∙ (λ j. log.lines ++ map (line_at (log.steps + 1)) (next_sent (same j) c (is j) (is j).left).notes)) i;
+    shown_there : mid.state.servers ≡ told_by old.plan.config.servers mid.keeper.records
+    shown_there = ap (λ (z : State). z.servers) h.state
+
+    moved : record mid.state { bag = remove mid.state.bag place } ≡ record (happens_with old.plan k old.state (Deliver place)) { servers = told_by old.plan.config.servers mid.keeper.records }
+    moved = ap (λ (z : State). record z { bag = remove z.bag place }) h.state
+        ∙ ap (λ (z : State). record z { servers = told_by old.plan.config.servers mid.keeper.records }) (taken_out old.plan k old.state place from (Server n) packet there)
+
+    by_rule : IsToldTurn old.state n packet h.reply (told_by old.plan.config.servers (option_map (after_packet n packet) old.keeper.records))
+        → record (happens_with old.plan k old.state (Deliver place)) { servers = slice_set old.state.servers n (server_keeps (records_at old.state n) packet) } ≡ happens old.plan old.state (Deliver place)
+    by_rule t = rw (there, t.reply_is) refl
+
+-- ---- a restart
+
+listed_by : (count : ℕ) (s : State) (o : Option (List (List Record))) (listed : List Record) → s.servers ≡ told_by count o → length s.servers ≡ count → Tells o → IfSome o (λ all. length all ≡ count → listed ≡ all_listed all) → listed ≡ all_listed s.servers
+listed_by count s None listed shown n tells is = absurd cc
+listed_by count s (Some all) listed shown n tells is = let m : length all ≡ count = sym (ap length shown) ∙ n in rw shown (is m)
+
+restart_servers : (plan : PlanView) (k : Keeping) (s : State) (counter : Option ℕ) → (restarts plan k s counter).servers ≡ s.servers
+restart_servers plan k s None = refl
+restart_servers plan k s (Some counter) = refl
+
+restart_same : (plan : PlanView) (k other : Keeping) (s : State) (counter : Option ℕ) → k.records ≡ other.records → restarts plan k s counter ≡ restarts plan other s counter
+restart_same plan k other s None e = refl
+restart_same plan k other s (Some counter) e = ap (λ (rs : List Record). restarts plan (record { reply = None; records = rs }) s (Some counter)) e
+
+pub restart_after : (old new : Scene) → IsRestarted old new → old.state.servers ≡ told_by old.plan.config.servers old.keeper.records → length old.state.servers ≡ old.plan.config.servers → old.keeper.servers ≡ old.plan.config.servers → old.keeper.faults ≤ new.keeper.faults
+    → IsAfter old Restart new
+restart_after old new h shown count keeper later = record {
+  plan = h.plan;
+  keeping = k;
+  answers = record { kind = tt; within = h.within };
+  state = h.state ∙ ap (λ (servers : List (List Record)). record (restarts old.plan k old.state (ready old.state.controller)) { servers = servers }) (sym kept);
+  told = λ tells. h.state ∙ restart_same old.plan k (keeping_of old.state Restart) old.state (ready old.state.controller)
+      (listed_by old.plan.config.servers old.state old.keeper.records h.listed shown count tells (subst (λ (n : ℕ). IfSome old.keeper.records (λ all. length all ≡ n → h.listed ≡ all_listed all)) keeper h.told));
+  tells = ap is_some h.records;
+  records = kept_shown ∙ (λ i. told_by (sym h.plan i).config.servers (sym h.records i));
+  servers = h.servers;
+  ceiling = h.ceiling;
+  later = later;
 }
+  where
+    k : Keeping
+    k = record { reply = None; records = h.listed }
 
-module _ (plan : PlanView) (counter : ℕ) (clients : List ClientState) (records : Option (List (List Record))) (bag : List Message) (log : RoomyLog) (place : ℕ) (m : Message) (there : slice_get bag place ≡ Some m) where
-  abbrev before : State
-  before = state_of plan counter clients records bag log
+    kept : new.state.servers ≡ (restarts old.plan k old.state (ready old.state.controller)).servers
+    kept = ap (λ (z : State). z.servers) h.state
 
-  pub client_after : (c : ℕ) (client : ClientState) (bag' : List Message) (log' : RoomyLog) → m.to ≡ Client c → GoesTo plan.config m.packet (Client c) → client ≡ client_at before c
-      → bag' ≡ remove bag place → Logs log log' (answered_in m.packet)
-      → state_of plan counter (slice_set clients c (closed client)) records bag' log' ≡ happens plan before (Deliver place)
-  client_after c client bag' log' to goes is eb el = rw (there, to, client_turn_is plan.config plan.ops c (client_at before c) m.packet goes, is) (λ i. record before { clients = slice_set clients c (closed (client_at before c)); bag = (eb ∙ sym (append-nil (remove bag place))) i; steps = el.steps i; log = el.lines i })
+    kept_shown : new.state.servers ≡ told_by old.plan.config.servers old.keeper.records
+    kept_shown = kept ∙ (restart_servers old.plan k old.state (ready old.state.controller) ∙ shown)
 
-  pub switch_after : (counter' : ℕ) (bag' : List Message) (log' : RoomyLog) → m.to ≡ Switch → (pass (opening_view plan.config 1 counter) m.packet).view ≡ opening_view plan.config 1 counter'
-      → bag' ≡ remove bag place ++ messages_from Switch (passed_out (pass (opening_view plan.config 1 counter) m.packet)) → Logs log log' (pass_notes m.packet (pass (opening_view plan.config 1 counter) m.packet))
-      → state_of plan counter' clients records bag' log' ≡ happens plan before (Deliver place)
-  switch_after counter' bag' log' to view eb el = rw (there, to) (λ i. record before { switch = sym view i; bag = eb i; steps = el.steps i; log = el.lines i })
+-- ---- orders
 
-  module _ (n : ℕ) (reply : Packet) (new : Option (List (List Record))) (bag' : List Message) (log' : RoomyLog) (to : m.to ≡ Server n) (kind : IsReplyTo n m.packet (Some reply)) (goes : reply_goes_to reply ≡ Switch)
-      (en : new ≡ option_map (after_packet n m.packet) records) (eb : bag' ≡ remove bag place ++ record { from = Server n; to = Switch; packet = reply } ∷ []) (el : Logs log log' []) where
-    -- whatever the keeper answers in kind
-    pub server_after : IsAfter plan before (Deliver place) (state_of plan counter clients new bag' log')
-    server_after = record {
-      keeping = record { reply = Some reply; records = [] };
-      answers = rw (there, to) kind;
-      after = rw (there, to, goes, eb) (λ i. record (state_of plan counter clients new (remove bag place ++ record { from = Server n; to = Switch; packet = reply } ∷ []) log) { steps = el.steps i; log = el.lines i });
-      servers = rw en (same_count plan.config.servers n m.packet records);
-    }
+pub done_kept : (plan : PlanView) (s : State) (order : Order) → (does_order plan s (Some order)).done ≡ s.done
+done_kept plan s (Admit step key) = refl
+done_kept plan s (Evict step key) = refl
+done_kept plan s (Snap step) = refl
+done_kept plan s (Stop step) = refl
+done_kept plan s (StopAt kind times) = refl
 
-  -- where the keeper tells its records it answers by the rule of a server
-  pub server_told : (n : ℕ) (reply : Packet) (new all : List (List Record)) (bag' : List Message) (log' : RoomyLog) → m.to ≡ Server n → reply_goes_to reply ≡ Switch → told_by plan.config.servers records ≡ all
-      → Some reply ≡ server_reply n (records_of all n) m.packet → new ≡ after_packet n m.packet all
-      → bag' ≡ remove bag place ++ record { from = Server n; to = Switch; packet = reply } ∷ [] → Logs log log' []
-      → state_of plan counter clients (Some new) bag' log' ≡ happens plan before (Deliver place)
-  server_told n reply new all bag' log' to goes told is en eb el = rw (there, to, told, ← is, goes, en, eb) (λ i. record (state_of plan counter clients (Some (after_packet n m.packet all)) (remove bag place ++ record { from = Server n; to = Switch; packet = reply } ∷ []) log) { steps = el.steps i; log = el.lines i })
+one_kind : (order : Order) → cond {A = ℕ} (is_slot_order order) 1 0 + cond {A = ℕ} (is_snap order) 1 0 + cond {A = ℕ} (is_stop order) 1 0 ≡ 1
+one_kind (Admit step key) = refl
+one_kind (Evict step key) = refl
+one_kind (Snap step) = refl
+one_kind (Stop step) = refl
+one_kind (StopAt kind times) = refl
 
--- the same of a keeper that may tell
-pub server_by_rule : (plan : PlanView) (counter : ℕ) (clients : List ClientState) (records : Option (List (List Record))) (bag : List Message) (log : RoomyLog) (place : ℕ) (m : Message) → slice_get bag place ≡ Some m
-    → (n : ℕ) (reply : Packet) (new : Option (List (List Record))) (bag' : List Message) (log' : RoomyLog) → m.to ≡ Server n → reply_goes_to reply ≡ Switch
-    → IfSome records (λ all. Some reply ≡ server_reply n (records_of all n) m.packet) → new ≡ option_map (after_packet n m.packet) records
-    → bag' ≡ remove bag place ++ record { from = Server n; to = Switch; packet = reply } ∷ [] → Logs log log' [] → Tells records
-    → state_of plan counter clients new bag' log' ≡ happens plan (state_of plan counter clients records bag log) (Deliver place)
-server_by_rule plan counter clients None bag log place m there n reply new bag' log' to goes is en eb el tells = absurd (cc tells)
-server_by_rule plan counter clients (Some all) bag log place m there n reply new bag' log' to goes is en eb el tells =
-    rw en (server_told plan counter clients (Some all) bag log place m there n reply (after_packet n m.packet all) all bag' log' to goes refl is refl eb el)
+count_cons : (p : Order → Bool) (x : Order) (xs : List Order) → count_by p (x ∷ xs) ≡ cond {A = ℕ} (p x) 1 0 + count_by p xs
+count_cons p x xs = sum_by-cons (λ y. cond {A = ℕ} (p y) 1 0) x xs
+
+orders_counted : (orders : List Order) → length orders ≡ count_by is_slot_order orders + count_by is_snap orders + count_by is_stop orders
+orders_counted [] = refl
+orders_counted (x ∷ xs) = omega (arith, orders_counted xs, one_kind x, count_cons is_slot_order x xs, count_cons is_snap x xs, count_cons is_stop x xs)
+
+pub few_orders : (plan : PlanView) → IsPlan plan → length plan.orders ≤ ORDER_LIMIT + SNAP_LIMIT + STOP_LIMIT
+few_orders plan h = omega (arith, orders_counted plan.orders, h.slot_orders, h.snaps, h.stops)

@@ -1,4 +1,13 @@
-pub mod Drawn
-pub mod WorldView
 pub mod RoomyBag
-pub mod Linearizable
+pub mod Scene
+pub mod Seats
+pub mod Steps
+pub mod Passing
+pub mod Serving
+pub mod Reached
+pub mod Tasks
+pub mod Ready
+pub mod Standing
+pub mod Happening
+pub mod Listing
+pub mod Choices

@@ -10,7 +10,6 @@ pub(crate) struct Bag {
 }
 
 impl Model for Bag {
-    ghost use Rattle.far_model.specs.Members.{is_empty};
     ghost use Rattle.std.specs.Prelude.{map};
     ghost use Rattle.far_world.specs.RoomyBag.{AreSpellings, RoomyBag, message_of};
 
@@ -21,8 +20,12 @@ impl Model for Bag {
     ghost invariant = { λ b. AreSpellings b.wires.messages };
 }
 
-ghost use Rattle.std.specs.Prelude.{◌≡◌, ◌+◌, ◌-◌, ◌^◌, ◌<◌, ◌≤◌, ◌++◌, [], ◌∷◌, length, remove, slice_get, Some, OnOk};
+ghost use Rattle.std.specs.Prelude.{◌≡◌, ◌+◌, ◌-◌, ◌^◌, ◌<◌, ◌≤◌, ◌++◌, ◌&&◌, not, [], ◌∷◌, length, remove, take, slice_get, Some, OnOk};
+ghost use Rattle.std.specs.List.{count_by, list_any};
+ghost use Rattle.far_base.specs.declared.packet.Message.{Message};
+ghost use Rattle.far_model.specs.Events.{can_deliver, is_switch};
 ghost use Rattle.far_model.specs.Parties.{messages_from};
+ghost use Rattle.far_model.specs.Members.{is_empty};
 
 impl Bag {
     /// No messages.
@@ -48,19 +51,20 @@ impl Bag {
         self.wires.count() == 0
     }
 
-    /// Makes room for one more message.
-    pub(crate) fn reserve(&mut self) -> Result<(), Memory>
+    /// Makes room for so many more messages.
+    pub(crate) fn reserve(&mut self, count: u32) -> Result<(), Memory>
         ensures messages { self.new.messages ≡ self.old.messages }
-        ensures room { OnOk result (0 < self.new.room) }
+        ensures room { OnOk result (count ≤ self.new.room) }
     {
-        self.wires.reserve(1)
+        self.wires.reserve(count)
     }
 
     /// Adds what a party sends, as its spelling. There is room for one more message.
     pub(crate) fn post(&mut self, from: Party, out: &Out)
         requires room { 0 < self.old.room }
         requires few { length self.old.messages < 2 ^ 31 }
-        ensures { self.new.messages ≡ self.old.messages ++ messages_from from (out.now ∷ []) }
+        ensures messages { self.new.messages ≡ self.old.messages ++ messages_from from (out.now ∷ []) }
+        ensures room { self.old.room ≤ self.new.room + 1 }
     {
         let wire = encode(&out.packet);
         self.wires.put(from, out.to, wire);
@@ -86,5 +90,12 @@ impl Bag {
         ensures room { self.old.room ≤ self.new.room }
     {
         let _taken = self.wires.take(place);
+    }
+
+    /// Whether the switch sent none of the messages.
+    pub(crate) fn none_from_switch(&self) -> bool
+        ensures { result ≡ not (list_any (λ (m : Message). is_switch m.from) self.now.messages) }
+    {
+        self.wires.none_from(Party::Switch)
     }
 }

@@ -1,24 +1,30 @@
-ghost use Rattle.std.specs.Prelude.{◌≡◌, ◌+◌, ◌<◌, ◌≤◌, ◌^◌, length, true, Some, slice_get, slice_index_or};
+ghost use Rattle.std.specs.Prelude.{◌≡◌, ◌+◌, ◌<◌, ◌≤◌, ◌^◌, ◌++◌, length, false, true, Some, is_some, slice_get, slice_index_or, nat_eq, ◌&&◌, if◌then◌else◌};
 ghost use Rattle.std.specs.List.{count_by, list_all};
+ghost use Rattle.far_base.specs.Limits.{IsPlan, due_number};
 ghost use Rattle.far_base.specs.declared.event.Event.{Event};
+ghost use Rattle.far_base.specs.declared.plan.TheConstants.{CLIENT_LIMIT};
 ghost use Rattle.far_model.specs.Events as events;
+ghost use Rattle.far_model.specs.Passes as counts;
 ghost use Rattle.far_model.specs.Runs as runs;
-ghost use Rattle.far_model.specs.State.{nobody};
-ghost use Rattle.far_world.specs.WorldView.{possible, picked, CanHappen};
+ghost use Rattle.far_world.specs.Choices.{controller_choices, is_idle, nothing_sent, seat_can_send, seat_is_done};
+ghost use Rattle.far_world.specs.Seats.{clients_of};
 
 use crate::bag::Bag;
-use crate::client::Client;
-use far_base::Event;
+use crate::parties::Parties;
+use crate::seat::Seat;
+use far_base::{Event, Order, Party, PassKind};
+use far_outside::Keeper;
+use switch_core::Switch;
 
 /// How many clients can send.
-fn count_senders(clients: &[Client]) -> u32
-    requires { length clients.now < 2 ^ 16 }
-    ensures count { result ≡ count_by events.can_send clients.now }
-    ensures bound { result ≤ length clients.now }
+fn count_senders(seats: &[Seat]) -> u32
+    requires { length seats.now < 2 ^ 16 }
+    ensures count { result ≡ count_by seat_can_send seats.now }
+    ensures bound { result ≤ length seats.now }
 {
     let mut count = 0;
-    for client in clients {
-        if client.can_send() {
+    for seat in seats {
+        if seat.can_send() {
             count += 1;
         }
     }
@@ -26,17 +32,15 @@ fn count_senders(clients: &[Client]) -> u32
 }
 
 /// The client at this place among those that can send, counted from 0.
-fn sender_at(clients: &[Client], place: u32) -> u32
-    requires few { length clients.now < 2 ^ 16 }
-    requires there { place < count_by events.can_send clients.now }
-    ensures chosen { slice_get (events.send_choices 0 clients.now) place ≡ Some (Event.Send result) }
-    ensures within { result < length clients.now }
-    ensures can { events.can_send (slice_index_or clients.now result nobody) ≡ true }
+fn sender_at(seats: &[Seat], place: u32) -> u32
+    requires few { length seats.now < 2 ^ 16 }
+    requires there { place < count_by seat_can_send seats.now }
+    ensures { slice_get (events.send_choices 0 (clients_of seats.now)) place ≡ Some (Event.Send result) }
 {
     let mut left = place;
-    for i in 0..clients.len() {
-        let client = &clients[i];
-        if client.can_send() {
+    for i in 0..seats.len() {
+        let seat = &seats[i];
+        if seat.can_send() {
             if left == 0 {
                 return i as u32;
             }
@@ -46,35 +50,267 @@ fn sender_at(clients: &[Client], place: u32) -> u32
     unreachable!()
 }
 
-/// How many events can happen: a client sends, or a message is delivered.
-pub(crate) fn count_choices(clients: &[Client], bag: &Bag) -> u32
-    requires clients { length clients.now < 2 ^ 16 }
-    requires messages { length bag.now.messages < 2 ^ 31 }
-    ensures { result ≡ length (possible clients.now bag.now.messages) }
+/// Whether the message at the place can be delivered.
+fn can_deliver(bag: &Bag, running: bool, place: u32) -> bool
+    requires { place < length bag.now.messages }
+    ensures { result ≡ events.can_deliver running (slice_index_or bag.now.messages place nothing_sent) }
 {
-    count_senders(clients) + bag.len()
+    running || bag.at(place).to != Party::Switch
 }
 
-/// The event that the pick chooses among those that can happen: sends by rising client, and then
-/// deliveries by rising place.
-pub(crate) fn choose(clients: &[Client], bag: &Bag, pick: u64) -> Event
-    requires clients { length clients.now < 2 ^ 16 }
-    requires messages { length bag.now.messages < 2 ^ 31 }
-    requires some { 0 < length (possible clients.now bag.now.messages) }
-    ensures chosen { result ≡ picked clients.now bag.now.messages pick }
-    ensures can { CanHappen clients.now bag.now.messages result }
+/// How many messages can be delivered: all to a running switch, and those to others.
+fn count_deliverable(bag: &Bag, running: bool) -> u32
+    ensures count { result ≡ count_by (events.can_deliver running) bag.now.messages }
+    ensures bound { result ≤ length bag.now.messages }
 {
-    let place = (pick % u64::from(count_choices(clients, bag))) as u32;
-    let senders = count_senders(clients);
-    if place < senders {
-        return Event::Send(sender_at(clients, place));
+    if running {
+        return bag.len();
     }
-    Event::Deliver(place - senders)
+    let mut count = 0;
+    for place in 0..bag.len() {
+        if can_deliver(bag, running, place) {
+            count += 1;
+        }
+    }
+    count
+}
+
+/// The place in the bag of the message at this place among those that can be delivered, counted from 0.
+fn deliverable_at(bag: &Bag, running: bool, place: u32) -> u32
+    requires { place < count_by (events.can_deliver running) bag.now.messages }
+    ensures { slice_get (events.deliver_choices running 0 bag.now.messages) place ≡ Some (Event.Deliver result) }
+{
+    if running {
+        return place;
+    }
+    let mut left = place;
+    for at in 0..bag.len() {
+        if can_deliver(bag, running, at) {
+            if left == 0 {
+                return at;
+            }
+            left -= 1;
+        }
+    }
+    unreachable!()
+}
+
+/// The event of the controller at this place among those that can happen: a tick, a recovery, a restart.
+fn controller_event(tick: bool, recover: bool, restart: bool, place: u32) -> Event
+    ensures { result ≡ slice_index_or (controller_choices tick recover restart) place Event.Tick }
+{
+    if tick && place == 0 {
+        return Event::Tick;
+    }
+    let place = if tick { place - 1 } else { place };
+    if recover && place == 0 {
+        return Event::Recover;
+    }
+    let place = if recover {
+        place.saturating_sub(1)
+    } else {
+        place
+    };
+    if restart && place == 0 {
+        return Event::Restart;
+    }
+    Event::Tick
 }
 
 /// Whether each operation of each client is answered.
-pub(crate) fn are_done(clients: &[Client]) -> bool
-    ensures { result ≡ list_all runs.is_done clients.now }
+fn are_done(seats: &[Seat]) -> bool
+    ensures { result ≡ list_all seat_is_done seats.now }
 {
-    clients.iter().all(|client| client.is_done())
+    seats.iter().all(|seat| seat.is_done())
+}
+
+fn all_hold(clients: bool, orders: bool, running: bool, messages: bool, controller: bool) -> bool
+    ensures { result ≡ (clients && (orders && (running && (messages && controller)))) }
+{
+    clients && orders && running && messages && controller
+}
+
+/// 1 where the test holds, and else 0.
+fn one_if(test: bool) -> u32
+    ensures value { result ≡ if test then 1 else 0 }
+    ensures bound { result ≤ 1 }
+{
+    if test { 1 } else { 0 }
+}
+
+/// The place of a kind among the counts of packets that came to the switch.
+fn place_of(kind: PassKind) -> usize
+    ensures value { result ≡ counts.pass_place kind }
+    ensures bound { result < 9 }
+{
+    match kind {
+        PassKind::GetReq => 0,
+        PassKind::WriteReq => 1,
+        PassKind::GetRep => 2,
+        PassKind::WriteRep => 3,
+        PassKind::Admit => 4,
+        PassKind::Peek => 5,
+        PassKind::Remove => 6,
+        PassKind::SnapStart => 7,
+        PassKind::SnapRead => 8,
+    }
+}
+
+/// The number from which an order is due: of the step, or of the packets of its kind.
+fn due_number_of(order: &Order) -> u64
+    ensures { result ≡ due_number order.now }
+{
+    match *order {
+        Order::Admit { step, .. } => step,
+        Order::Evict { step, .. } => step,
+        Order::Snap { step } => step,
+        Order::Stop { step } => step,
+        Order::StopAt { times, .. } => times,
+    }
+}
+
+impl<S: Switch + Drop, K: Keeper + Drop> Parties<S, K> {
+    /// Whether a recovery can begin.
+    fn can_recover(&self) -> bool
+        ensures { result ≡ events.can_recover self.now.state }
+    {
+        !self.running && !self.controller.has_round() && self.bag.none_from_switch()
+    }
+
+    /// How many events other than orders can happen.
+    pub(crate) fn count_choices(&self) -> u32
+        requires clients { length self.now.state.clients < 2 ^ 16 }
+        requires few { length self.now.state.bag < 2 ^ 28 }
+        ensures count { result ≡ length (events.choices self.now.state) }
+        ensures bound { result < 2 ^ 29 }
+    {
+        count_senders(&self.clients)
+            + count_deliverable(&self.bag, self.running)
+            + one_if(self.controller.tick_ready())
+            + one_if(self.can_recover())
+            + one_if(self.controller.ready().is_some())
+    }
+
+    /// The event other than an order at this place among those that can happen, counted from 0.
+    fn choice_at(&self, place: u32) -> Event
+        requires clients { length self.now.state.clients < 2 ^ 16 }
+        requires few { length self.now.state.bag < 2 ^ 28 }
+        ensures { result ≡ slice_index_or (events.choices self.now.state) place Event.Tick }
+    {
+        let senders = count_senders(&self.clients);
+        if place < senders {
+            return Event::Send(sender_at(&self.clients, place));
+        }
+        let place = place - senders;
+        let deliverable = count_deliverable(&self.bag, self.running);
+        if place < deliverable {
+            return Event::Deliver(deliverable_at(&self.bag, self.running, place));
+        }
+        controller_event(
+            self.controller.tick_ready(),
+            self.can_recover(),
+            self.controller.ready().is_some(),
+            place - deliverable,
+        )
+    }
+
+    /// Whether an order can happen, apart from its number.
+    fn is_possible(&self, order: &Order) -> bool
+        ensures { result ≡ events.is_possible self.now.state order.now }
+    {
+        match order {
+            Order::Admit { .. } => !self.controller.has_round(),
+            Order::Evict { .. } => {
+                self.running && !self.controller.busy_evicting() && !self.controller.has_round()
+            }
+            Order::Snap { .. } => {
+                self.running && !self.controller.has_job() && !self.controller.has_round()
+            }
+            Order::Stop { .. } | Order::StopAt { .. } => self.running,
+        }
+    }
+
+    /// How far it has come with what an order waits for.
+    fn counted_for(&self, order: &Order) -> u64
+        ensures { result ≡ events.counted_for self.now.state order.now }
+    {
+        match *order {
+            Order::StopAt { kind, .. } => self.passes[place_of(kind)],
+            _ => self.log.steps(),
+        }
+    }
+
+    /// Whether the first order that is not done can happen now.
+    pub(crate) fn is_order_enabled(&self) -> bool
+        requires clients { length self.now.state.clients < 2 ^ 16 }
+        requires few { length self.now.state.bag < 2 ^ 28 }
+        ensures { result ≡ events.is_order_enabled self.now.plan self.now.state }
+    {
+        let Some(order) = self.plan.orders.get(self.done as usize) else {
+            return false;
+        };
+        self.is_possible(order)
+            && (due_number_of(order) <= self.counted_for(order) || self.count_choices() == 0)
+    }
+
+    /// Whether no event can happen.
+    pub(crate) fn is_quiet(&self) -> bool
+        requires clients { length self.now.state.clients < 2 ^ 16 }
+        requires few { length self.now.state.bag < 2 ^ 28 }
+        ensures { result ≡ runs.is_quiet self.now.plan self.now.state }
+    {
+        self.count_choices() == 0 && !self.is_order_enabled()
+    }
+
+    /// How many events can happen; an enabled order counts too.
+    pub(crate) fn enabled_count(&self) -> u32
+        requires clients { length self.now.state.clients < 2 ^ 16 }
+        requires few { length self.now.state.bag < 2 ^ 28 }
+        ensures { result ≡ runs.enabled_count self.now.plan self.now.state }
+    {
+        self.count_choices() + one_if(self.is_order_enabled())
+    }
+
+    /// The event that happens next: the enabled order, and else what the pick chooses.
+    pub(crate) fn next_event(&self, pick: u64) -> Event
+        requires clients { length self.now.state.clients < 2 ^ 16 }
+        requires few { length self.now.state.bag < 2 ^ 28 }
+        requires busy { runs.is_quiet self.now.plan self.now.state ≡ false }
+        ensures { result ≡ runs.next_event self.now.plan self.now.state pick }
+    {
+        if self.is_order_enabled() {
+            return Event::Order(self.done);
+        }
+        let count = u64::from(self.count_choices());
+        self.choice_at((pick % count) as u32)
+    }
+
+    /// Whether each order is done.
+    fn are_orders_done(&self) -> bool
+        ensures { result ≡ nat_eq self.now.state.done (length self.now.plan.orders) }
+    {
+        self.done as usize == self.plan.orders.len()
+    }
+
+    /// Whether the controller has no want, eviction, snapshot or recovery left.
+    fn is_controller_idle(&self) -> bool
+        ensures { result ≡ is_idle self.now.state.controller }
+    {
+        !self.controller.has_want()
+            && !self.controller.busy_evicting()
+            && !self.controller.has_job()
+            && !self.controller.has_round()
+    }
+
+    /// Whether all is done: every operation is answered, every order is done, the switch runs, and no message, want,
+    /// eviction, snapshot or recovery is left.
+    pub(crate) fn is_finished(&self) -> bool
+        ensures { result ≡ runs.is_finished self.now.plan self.now.state }
+    {
+        let clients = are_done(&self.clients);
+        let orders = self.are_orders_done();
+        let messages = self.bag.is_empty();
+        let controller = self.is_controller_idle();
+        all_hold(clients, orders, self.running, messages, controller)
+    }
 }

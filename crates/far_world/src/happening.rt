@@ -1,274 +1,215 @@
-ghost use Rattle.std.specs.Prelude.{vec_len, vec_capacity, ◌≡◌, ◌≢◌, ◌+◌, ◌-◌, ◌<◌, ◌≤◌, ◌^◌, ◌++◌, ℕ, [], ◌∷◌, length, map, remove, slice_get, slice_set, slice_index_or, Some, None, IsTrue, IfSome, OnOk, OnErr, IsErrOf, is_some, option_to_list};
-ghost use Rattle.far_base.specs.declared.log.LogEntry.TheVariants.{Sent, Answered};
+ghost use Rattle.std.specs.Prelude.{◌≡◌, ◌+◌, ◌<◌, ◌≤◌, ℕ, Some, OnOk, OnErr, IsErrOf, IsOkUnless, is_some, length, slice_get, true};
 ghost use Rattle.far_base.specs.declared.packet.Message.{Message};
-ghost use Rattle.far_base.specs.declared.party.Party.{Party};
-ghost use Rattle.far_base.specs.declared.party.Party.TheVariants.{Switch};
-ghost use Rattle.far_model.specs.Clients as clients_of;
-ghost use Rattle.far_model.specs.Events as events;
-ghost use Rattle.far_model.specs.Members.{Among};
-ghost use Rattle.far_model.specs.Parties.{messages_from};
-ghost use Rattle.far_model.specs.Pass as passes;
-ghost use Rattle.far_invariants.specs.Uncached.{GoesTo, IsUncached, IsUncachedPlan};
+ghost use Rattle.far_model.specs.Events.{does_order, handled, happens_with, is_enabled, is_order_enabled, is_possible};
 ghost use Rattle.far_outside.specs.Faults.{Rose};
-ghost use Rattle.far_base.specs.declared.event.Event.{Event};
-ghost use Rattle.far_model.specs.View.{opening_view};
-ghost use Rattle.far_world.specs.WorldView.{Logs, AreNumberedUpTo, IsAfter, IsOperation, Tells, answered_in, number_of, state_of, CanHappen, KnowsOperations, SameLeft};
+ghost use Rattle.far_world.specs.Happening.{IsCalm, IsForOthers};
+ghost use Rattle.far_world.specs.Ready.{IsReady};
+ghost use Rattle.far_world.specs.Scene.{with_faults};
+ghost use Rattle.far_world.specs.Standing.{Stands, unasked};
+ghost use Rattle.far_world.specs.Serving.{IsServed};
+ghost use Rattle.far_world.specs.Steps.{IsAfter};
+ghost use Rattle.far_invariants.specs.Addressed.{ComesTo};
 
-use crate::bag::Bag;
-use crate::client::Client;
-use crate::pass::pass;
-use far_base::{Config, Event, LogEntry, LogLine, Memory, Op, OpLine, Out, Packet, Party, Plan};
-use far_history::Log;
+use crate::parties::Parties;
+use crate::tasks::Task;
+use far_base::{Event, Memory, Order, Packet, Party, Plan};
 use far_outside::Keeper;
-use server_keeper::{StepFault, server_step};
+use server_keeper::StepFault;
+use switch_core::Switch;
 
-/// Counts one more step, and logs what happened in it.
-fn note(log: &mut Log, entry: Option<LogEntry>)
-    requires room { 0 < log.old.room }
-    requires steps { log.old.steps + 1 < 2 ^ 64 }
-    ensures { Logs log.old log.new (option_to_list entry) }
+/// The order at the place of the plan.
+fn order_at(plan: &Plan, place: u32) -> Order
+    requires { place < length plan.now.orders }
+    ensures { slice_get plan.now.orders place ≡ Some result }
 {
-    let moment = log.steps() + 1;
-    log.set_steps(moment);
-    if let Some(entry) = entry {
-        log.push(LogLine { moment, entry });
-    }
+    plan.orders[place as usize]
 }
 
-/// What the client asks the switch.
-fn request(caller: u32, op: u32, line: &OpLine) -> Packet
-    ensures { result ≡ clients_of.request caller op line.now }
-{
-    match line.op {
-        Op::Get => Packet::GetReq {
-            caller,
-            op,
-            key: line.key,
-        },
-        Op::Put | Op::Del => Packet::WriteReq {
-            caller,
-            op,
-            key: line.key,
-            body: line.body,
-        },
-    }
-}
-
-/// The client sends its next operation.
-fn send(ops: &[OpLine], client: &mut Client, number: u32, bag: &mut Bag, log: &mut Log)
-    requires next { IsTrue (events.has_next client.old.left) }
-    requires known { (op : ℕ) → Among op client.old.left → IsOperation ops.now op }
-    requires bag_room { 0 < bag.old.room }
-    requires few { length bag.old.messages < 2 ^ 31 }
-    requires log_room { 0 < log.old.room }
-    requires steps { log.old.steps + 1 < 2 ^ 64 }
-    ensures client { client.new ≡ (events.next_sent ops.now number client.old client.old.left).state }
-    ensures bag { bag.new.messages ≡ bag.old.messages ++ messages_from (Party.Client number) (events.next_sent ops.now number client.old client.old.left).out }
-    ensures log { Logs log.old log.new (events.next_sent ops.now number client.old client.old.left).notes }
-{
-    let op = client.open_next();
-    let line = &ops[op as usize - 1];
-    let out = Out {
-        to: Party::Switch,
-        packet: request(number, op, line),
-    };
-    bag.post(Party::Client(number), &out);
-    note(log, Some(LogEntry::Sent { op, line: *line }));
-}
-
-/// The message at the place is taken out, and the switch handles it.
-fn deliver_to_switch(
-    config: &Config,
-    counter: &mut u64,
-    bag: &mut Bag,
-    log: &mut Log,
-    place: u32,
-    packet: &Packet,
-)
-    requires servers { 0 < config.now.servers }
-    requires cold { config.now.hot ≡ 0 }
-    requires counter { counter.old + 1 < 2 ^ 64 }
-    requires kind { GoesTo config.now packet.now Switch }
-    requires number { number_of packet.now ≤ counter.old }
-    requires numbered { AreNumberedUpTo counter.old bag.old.messages }
-    requires there { place < length bag.old.messages }
-    requires bag_room { 0 < bag.old.room }
-    requires few { length bag.old.messages < 2 ^ 31 }
-    requires log_room { 0 < log.old.room }
-    requires steps { log.old.steps + 1 < 2 ^ 64 }
-    ensures rises { counter.old ≤ counter.new }
-    ensures numbered { AreNumberedUpTo counter.new bag.new.messages }
-    ensures counter { (passes.pass (opening_view config.now 1 counter.old) packet.now).view ≡ opening_view config.now 1 counter.new }
-    ensures bag { bag.new.messages ≡ remove bag.old.messages place ++ messages_from Switch (passes.passed_out (passes.pass (opening_view config.now 1 counter.old) packet.now)) }
-    ensures log { Logs log.old log.new (passes.pass_notes packet.now (passes.pass (opening_view config.now 1 counter.old) packet.now)) }
-{
-    let passed = pass(config, *counter, packet);
-    *counter = passed.counter;
-    bag.remove(place);
-    bag.post(Party::Switch, &passed.out);
-    note(log, passed.note);
-}
-
-/// The message at the place is taken out, and what the server answers to it goes to the switch.
-fn deliver_to_server(number: u32, bag: &mut Bag, log: &mut Log, place: u32, reply: Packet)
-    requires there { place < length bag.old.messages }
-    requires bag_room { 0 < bag.old.room }
-    requires few { length bag.old.messages < 2 ^ 31 }
-    requires log_room { 0 < log.old.room }
-    requires steps { log.old.steps + 1 < 2 ^ 64 }
-    ensures bag { bag.new.messages ≡ remove bag.old.messages place ++ record { from = Party.Server number; to = Switch; packet = reply } ∷ [] }
-    ensures log { Logs log.old log.new [] }
-{
-    bag.remove(place);
-    let out = Out {
-        to: Party::Switch,
-        packet: reply,
-    };
-    bag.post(Party::Server(number), &out);
-    note(log, None);
-}
-
-/// The operation that a packet answers.
-fn answered(packet: &Packet) -> Option<LogEntry>
-    ensures { option_to_list result ≡ answered_in packet.now }
-{
-    match *packet {
-        Packet::GetAns { op, .. } | Packet::WriteAns { op, .. } => Some(LogEntry::Answered { op }),
-        _ => None,
-    }
-}
-
-/// The message at the place is taken out, and it closes the operation of its client.
-fn deliver_to_client(client: &mut Client, bag: &mut Bag, log: &mut Log, place: u32, packet: &Packet)
-    requires there { place < length bag.old.messages }
-    requires log_room { 0 < log.old.room }
-    requires steps { log.old.steps + 1 < 2 ^ 64 }
-    ensures client { client.new ≡ clients_of.closed client.old }
-    ensures bag { bag.new.messages ≡ remove bag.old.messages place }
-    ensures log { Logs log.old log.new (answered_in packet.now) }
-{
-    client.close();
-    bag.remove(place);
-    note(log, answered(packet));
-}
-
-/// The message at the place is taken out, and its addressee handles it. Where the keeper fails
-/// nothing is changed, and the message is still there.
-fn deliver<K: Keeper>(
-    plan: &Plan,
-    counter: &mut u64,
-    clients: &mut [Client],
-    keeper: &mut K,
-    bag: &mut Bag,
-    log: &mut Log,
-    place: u32,
-) -> Result<(), StepFault>
-    requires plan { IsUncachedPlan plan.now }
-    requires uncached { IsUncached plan.now (state_of plan.now counter.old clients.old (K.records keeper.old) bag.old.messages log.old) }
-    requires servers { K.server_count keeper.old ≡ plan.now.config.servers }
-    requires numbered { AreNumberedUpTo counter.old bag.old.messages }
-    requires ceiling { K.ceiling keeper.old ≤ counter.old }
-    requires there { place < length bag.old.messages }
-    requires counter { counter.old + 1 < 2 ^ 64 }
-    requires bag_room { 0 < bag.old.room }
-    requires few { length bag.old.messages < 2 ^ 31 }
-    requires log_room { 0 < log.old.room }
-    requires steps { log.old.steps + 1 < 2 ^ 64 }
-    ensures after { OnOk result (IsAfter plan.now (state_of plan.now counter.old clients.old (K.records keeper.old) bag.old.messages log.old) (Event.Deliver place) (state_of plan.now counter.new clients.new (K.records keeper.new) bag.new.messages log.new)) }
-    ensures told { OnOk result (Tells (K.records keeper.old) → state_of plan.now counter.new clients.new (K.records keeper.new) bag.new.messages log.new ≡ events.happens plan.now (state_of plan.now counter.old clients.old (K.records keeper.old) bag.old.messages log.old) (Event.Deliver place)) }
-    ensures tells { is_some (K.records keeper.new) ≡ is_some (K.records keeper.old) }
-    ensures numbered { OnOk result (AreNumberedUpTo counter.new bag.new.messages) }
-    ensures ceiling { OnOk result (K.ceiling keeper.new ≤ counter.new) }
-    ensures steps { OnOk result (log.new.steps ≡ log.old.steps + 1) }
-    ensures left { SameLeft clients.old clients.new }
-    ensures err { OnErr result (state_of plan.now counter.new clients.new (K.records keeper.new) bag.new.messages log.new ≡ state_of plan.now counter.old clients.old (K.records keeper.old) bag.old.messages log.old) }
-    ensures same_records { OnErr result (K.records keeper.new ≡ K.records keeper.old) }
-    ensures same_servers { K.server_count keeper.new ≡ K.server_count keeper.old }
-    ensures same_ceiling { OnErr result (K.ceiling keeper.new ≡ K.ceiling keeper.old) }
-    ensures later { K.fault_count keeper.old ≤ K.fault_count keeper.new }
-    ensures cause { IsErrOf result StepFault.KeeperFailed → Rose (K.fault_count keeper.old) (K.fault_count keeper.new) }
-{
-    flight_laws::one_flight();
-    let message = bag.at(place);
-    match message.to {
-        Party::Switch => {
-            deliver_to_switch(&plan.config, counter, bag, log, place, &message.packet);
-            Ok(())
+impl<S: Switch + Drop, K: Keeper + Drop> Parties<S, K> {
+    /// What an order does.
+    fn obey(&mut self, order: &Order) -> Result<(), Memory>
+        requires stands { Stands self.old }
+        requires possible { is_possible self.old.state order.now ≡ true }
+        ensures ok { OnOk result (self.new ≡ record self.old { state = does_order self.old.plan self.old.state (Some order.now) }) }
+        ensures err { OnErr result (self.new ≡ self.old) }
+    {
+        match *order {
+            Order::Admit { key, .. } => self.control(&Task::Want(key)),
+            Order::Evict { key, .. } => self.control(&Task::Evict(key)),
+            Order::Snap { .. } => self.control(&Task::Snap),
+            Order::Stop { .. } => self.stop(),
+            Order::StopAt { .. } => self.stop(),
         }
-        Party::Client(number) => {
-            let client = &mut clients[number as usize];
-            deliver_to_client(client, bag, log, place, &message.packet);
-            Ok(())
-        }
-        Party::Server(number) => {
-            let reply = server_step(keeper, number, &message.packet)?;
-            deliver_to_server(number, bag, log, place, reply);
-            Ok(())
-        }
-        Party::Controller => unreachable!(),
     }
-}
 
-/// Makes room for what one event adds.
-pub(crate) fn make_room(bag: &mut Bag, log: &mut Log, events: &mut Vec<Event>) -> Result<(), Memory>
-    ensures messages { bag.new.messages ≡ bag.old.messages }
-    ensures steps { log.new.steps ≡ log.old.steps }
-    ensures lines { log.new.lines ≡ log.old.lines }
-    ensures events { events.new.items ≡ events.old.items }
-    ensures bag_room { OnOk result (0 < bag.new.room) }
-    ensures log_room { OnOk result (0 < log.new.room) }
-    ensures events_room { OnOk result (vec_len events.new < vec_capacity events.new) }
-{
-    bag.reserve()?;
-    log.reserve(1)?;
-    events.reserve(1)?;
-    Ok(())
-}
+    /// The first order that is not done is done.
+    fn do_order(&mut self) -> Result<(), Memory>
+        requires stands { Stands self.old }
+        requires enabled { is_order_enabled self.old.plan self.old.state ≡ true }
+        ensures ok { OnOk result (self.new ≡ record self.old { state = record (does_order self.old.plan self.old.state (slice_get self.old.plan.orders self.old.state.done)) { done = self.old.state.done + 1 } }) }
+        ensures err { OnErr result (self.new ≡ self.old) }
+    {
+        let order = order_at(&self.plan, self.done);
+        self.obey(&order)?;
+        self.done += 1;
+        Ok(())
+    }
 
-/// The event happens to the parties of a world. There is room for one more message and one more line.
-pub(crate) fn happen<K: Keeper>(
-    plan: &Plan,
-    counter: &mut u64,
-    clients: &mut [Client],
-    keeper: &mut K,
-    bag: &mut Bag,
-    log: &mut Log,
-    event: Event,
-) -> Result<(), StepFault>
-    requires plan { IsUncachedPlan plan.now }
-    requires uncached { IsUncached plan.now (state_of plan.now counter.old clients.old (K.records keeper.old) bag.old.messages log.old) }
-    requires known { KnowsOperations plan.now (state_of plan.now counter.old clients.old (K.records keeper.old) bag.old.messages log.old) }
-    requires servers { K.server_count keeper.old ≡ plan.now.config.servers }
-    requires numbered { AreNumberedUpTo counter.old bag.old.messages }
-    requires ceiling { K.ceiling keeper.old ≤ counter.old }
-    requires can { CanHappen clients.old bag.old.messages event }
-    requires counter { counter.old + 1 < 2 ^ 64 }
-    requires bag_room { 0 < bag.old.room }
-    requires few { length bag.old.messages < 2 ^ 31 }
-    requires log_room { 0 < log.old.room }
-    requires steps { log.old.steps + 1 < 2 ^ 64 }
-    ensures after { OnOk result (IsAfter plan.now (state_of plan.now counter.old clients.old (K.records keeper.old) bag.old.messages log.old) event (state_of plan.now counter.new clients.new (K.records keeper.new) bag.new.messages log.new)) }
-    ensures told { OnOk result (Tells (K.records keeper.old) → state_of plan.now counter.new clients.new (K.records keeper.new) bag.new.messages log.new ≡ events.happens plan.now (state_of plan.now counter.old clients.old (K.records keeper.old) bag.old.messages log.old) event) }
-    ensures tells { is_some (K.records keeper.new) ≡ is_some (K.records keeper.old) }
-    ensures numbered { OnOk result (AreNumberedUpTo counter.new bag.new.messages) }
-    ensures ceiling { OnOk result (K.ceiling keeper.new ≤ counter.new) }
-    ensures steps { OnOk result (log.new.steps ≡ log.old.steps + 1) }
-    ensures known { OnOk result (KnowsOperations plan.now (state_of plan.now counter.new clients.new (K.records keeper.new) bag.new.messages log.new)) }
-    ensures err { OnErr result (state_of plan.now counter.new clients.new (K.records keeper.new) bag.new.messages log.new ≡ state_of plan.now counter.old clients.old (K.records keeper.old) bag.old.messages log.old) }
-    ensures same_records { OnErr result (K.records keeper.new ≡ K.records keeper.old) }
-    ensures same_servers { K.server_count keeper.new ≡ K.server_count keeper.old }
-    ensures same_ceiling { OnErr result (K.ceiling keeper.new ≡ K.ceiling keeper.old) }
-    ensures later { K.fault_count keeper.old ≤ K.fault_count keeper.new }
-    ensures cause { IsErrOf result StepFault.KeeperFailed → Rose (K.fault_count keeper.old) (K.fault_count keeper.new) }
-{
-    flight_laws::one_flight();
-    match event {
-        Event::Send(number) => {
-            let client = &mut clients[number as usize];
-            send(&plan.ops, client, number, bag, log);
-            Ok(())
+    /// A party other than a server handles a packet. The message stays in the bag.
+    fn handle(&mut self, to: Party, packet: &Packet) -> Result<(), Memory>
+        requires stands { Stands self.old }
+        requires comes { ComesTo self.old.plan self.old.state to packet.now }
+        requires others { IsForOthers to }
+        ensures ok { OnOk result (self.new ≡ record self.old { state = handled self.old.plan unasked self.old.state self.old.state.bag to packet.now }) }
+        ensures err { OnErr result (self.new ≡ self.old) }
+    {
+        match to {
+            Party::Client(number) => self.client_handles(number, packet),
+            Party::Switch => self.switch_handles(packet),
+            Party::Controller => self.control(&Task::Take(*packet)),
+            Party::Server(_) => unreachable!(),
         }
-        Event::Deliver(place) => deliver(plan, counter, clients, keeper, bag, log, place),
-        _ => unreachable!(),
+    }
+
+    /// The message at the place is taken out and handled by a party other than a server.
+    fn deliver_to_others(&mut self, place: u32, to: Party, packet: &Packet) -> Result<(), Memory>
+        requires stands { Stands self.old }
+        requires there { (from : Party) × (slice_get self.old.state.bag place ≡ Some (record { from = from; to = to; packet = packet.now })) }
+        requires others { IsForOthers to }
+        ensures ok { OnOk result (self.new ≡ record self.old { state = happens_with self.old.plan unasked self.old.state (Event.Deliver place) }) }
+        ensures err { OnErr result (self.new ≡ self.old) }
+    {
+        self.handle(to, packet)?;
+        self.bag.remove(place);
+        Ok(())
+    }
+
+    /// The message at the place is taken out and handled by a server.
+    fn deliver_to_server(
+        &mut self,
+        place: u32,
+        number: u32,
+        packet: &Packet,
+    ) -> Result<(), StepFault>
+        requires stands { Stands self.old }
+        requires there { (from : Party) × (slice_get self.old.state.bag place ≡ Some (record { from = from; to = Party.Server number; packet = packet.now })) }
+        ensures ok { OnOk result (IsAfter self.old (Event.Deliver place) self.new) }
+        ensures err { OnErr result (self.new ≡ with_faults self.old self.new.keeper.faults) }
+        ensures later { self.old.keeper.faults ≤ self.new.keeper.faults }
+        ensures cause { IsErrOf result StepFault.KeeperFailed → Rose self.old.keeper.faults self.new.keeper.faults }
+    {
+        self.server_handles(number, packet)?;
+        self.bag.remove(place);
+        Ok(())
+    }
+
+    /// An event in which no keeper is asked.
+    fn act(&mut self, event: Event) -> Result<(), Memory>
+        requires stands { Stands self.old }
+        requires enabled { is_enabled self.old.plan self.old.state event ≡ true }
+        requires calm { IsCalm event }
+        ensures ok { OnOk result (self.new ≡ record self.old { state = happens_with self.old.plan unasked self.old.state event }) }
+        ensures err { OnErr result (self.new ≡ self.old) }
+    {
+        match event {
+            Event::Send(number) => self.send(number),
+            Event::Tick => self.control(&Task::Tick),
+            Event::Recover => self.control(&Task::Recover),
+            Event::Order(_) => self.do_order(),
+            _ => unreachable!(),
+        }
+    }
+
+    /// The message at the place is taken out and handled by a party other than a server.
+    fn deliver_calmly(&mut self, place: u32, to: Party, packet: &Packet) -> Result<(), StepFault>
+        requires stands { Stands self.old }
+        requires there { (from : Party) × (slice_get self.old.state.bag place ≡ Some (record { from = from; to = to; packet = packet.now })) }
+        requires others { IsForOthers to }
+        ensures ok { OnOk result (IsAfter self.old (Event.Deliver place) self.new) }
+        ensures err { OnErr result (self.new ≡ self.old) }
+        ensures never { IsOkUnless result StepFault.Memory }
+    {
+        match self.deliver_to_others(place, to, packet) {
+            Ok(()) => Ok(()),
+            Err(Memory) => Err(StepFault::Memory),
+        }
+    }
+
+    /// The message at the place is taken out, and its addressee handles it.
+    fn deliver(&mut self, place: u32) -> Result<(), StepFault>
+        requires stands { Stands self.old }
+        requires enabled { is_enabled self.old.plan self.old.state (Event.Deliver place) ≡ true }
+        ensures ok { OnOk result (IsAfter self.old (Event.Deliver place) self.new) }
+        ensures err { OnErr result (self.new ≡ with_faults self.old self.new.keeper.faults) }
+        ensures later { self.old.keeper.faults ≤ self.new.keeper.faults }
+        ensures cause { IsErrOf result StepFault.KeeperFailed → Rose self.old.keeper.faults self.new.keeper.faults }
+    {
+        let message = self.bag.at(place);
+        let packet = message.packet;
+        match message.to {
+            Party::Server(number) => self.deliver_to_server(place, number, &packet),
+            Party::Client(number) => { self.deliver_calmly(place, Party::Client(number), &packet) }
+            Party::Switch => self.deliver_calmly(place, Party::Switch, &packet),
+            Party::Controller => self.deliver_calmly(place, Party::Controller, &packet),
+        }
+    }
+
+    /// An event in which no keeper is asked.
+    fn act_calmly(&mut self, event: Event) -> Result<(), StepFault>
+        requires stands { Stands self.old }
+        requires enabled { is_enabled self.old.plan self.old.state event ≡ true }
+        requires calm { IsCalm event }
+        ensures ok { OnOk result (IsAfter self.old event self.new) }
+        ensures err { OnErr result (self.new ≡ self.old) }
+        ensures never { IsOkUnless result StepFault.Memory }
+    {
+        match self.act(event) {
+            Ok(()) => Ok(()),
+            Err(Memory) => Err(StepFault::Memory),
+        }
+    }
+
+    /// The switch runs again.
+    fn run_again(&mut self) -> Result<(), StepFault>
+        requires stands { Stands self.old }
+        requires enabled { is_enabled self.old.plan self.old.state Event.Restart ≡ true }
+        ensures ok { OnOk result (IsAfter self.old Event.Restart self.new) }
+        ensures err { OnErr result (self.new ≡ with_faults self.old self.new.keeper.faults) }
+        ensures later { self.old.keeper.faults ≤ self.new.keeper.faults }
+        ensures cause { IsErrOf result StepFault.KeeperFailed → Rose self.old.keeper.faults self.new.keeper.faults }
+    {
+        self.restart()?;
+        Ok(())
+    }
+
+    /// The event happens, where all stands as it should.
+    fn occur(&mut self, event: Event) -> Result<(), StepFault>
+        requires stands { Stands self.old }
+        requires enabled { is_enabled self.old.plan self.old.state event ≡ true }
+        ensures ok { OnOk result (IsAfter self.old event self.new) }
+        ensures err { OnErr result (self.new ≡ with_faults self.old self.new.keeper.faults) }
+        ensures later { self.old.keeper.faults ≤ self.new.keeper.faults }
+        ensures cause { IsErrOf result StepFault.KeeperFailed → Rose self.old.keeper.faults self.new.keeper.faults }
+    {
+        match event {
+            Event::Deliver(place) => self.deliver(place),
+            Event::Restart => self.run_again(),
+            Event::Send(_) => self.act_calmly(event),
+            Event::Tick => self.act_calmly(event),
+            Event::Recover => self.act_calmly(event),
+            Event::Order(_) => self.act_calmly(event),
+        }
+    }
+
+    /// The event happens. `KeeperFailed` only where the keeper's count of faults rose in this call. After
+    /// an error all is as before but for that count.
+    pub(crate) fn happen(&mut self, event: Event) -> Result<(), StepFault>
+        requires ready { IsReady event self.old }
+        ensures ok { OnOk result (IsAfter self.old event self.new) }
+        ensures err { OnErr result (self.new ≡ with_faults self.old self.new.keeper.faults) }
+        ensures later { self.old.keeper.faults ≤ self.new.keeper.faults }
+        ensures cause { IsErrOf result StepFault.KeeperFailed → Rose self.old.keeper.faults self.new.keeper.faults }
+    {
+        self.occur(event)
     }
 }

@@ -1,19 +1,18 @@
-//! The world: clients, the switch, servers whose records a keeper has, the messages on their way in
-//! bytes, and the log of what happened.
+//! The world: clients, the switch, the controller, servers whose records a keeper has, the messages
+//! on their way in bytes, and the log of what happened.
 #![tactic(auto)]
 
 mod bag;
 mod choice;
-mod client;
 mod happening;
-mod pass;
+mod listing;
+mod opening;
+mod parties;
+mod passing;
+mod seat;
+mod serving;
+mod tasks;
+mod turn;
 mod world;
 
-pub use far_base::{Event, Plan};
-pub use far_history::Log;
-pub use far_outside::Keeper;
-pub use server_keeper::StepFault;
 pub use world::{Halted, World};
-
-#[cfg(test)]
-mod tests;

@@ -1,223 +1,173 @@
-use crate::bag::Bag;
-use crate::choice::{are_done, choose, count_choices};
-use crate::client::Client;
-use crate::happening::{happen, make_room};
-use far_base::{Event, Memory, OpLine, Plan};
+use crate::parties::Parties;
+use far_base::{Event, LogEntry, Plan};
 use far_history::Log;
 use far_outside::Keeper;
 use server_keeper::StepFault;
 use std::alloc::Global;
 use std::marker::Model;
+use switch_core::Switch;
 
 /// Why a world could not start, and what it was given. The keeper's records are as before.
 #[derive(Drop)]
-pub struct Halted<K: Keeper> {
+pub struct Halted<S: Switch + Drop, K: Keeper + Drop> {
     pub cause: StepFault,
     pub plan: Plan,
+    pub switch: S,
     pub keeper: K,
 }
 
-/// A world of a plan without a cache: the parties and the messages on their way, the events that
-/// happened, and the log. The keeper has the servers' records. Contracts see the plan, the events, the
-/// state that they lead to, and what the keeper has; where it does not tell its records, the state
-/// has none at its servers.
+/// A world of a plan: its parties and the messages on their way, the events that happened, and the log. Contracts see
+/// the plan, the events, the state that they lead to, and what the keeper has; where the keeper does not tell its
+/// records, the state has none at its servers. Every world is reached: its state is that of the run of its plan by its
+/// events.
 #[derive(Drop)]
-pub struct World<K: Keeper> {
-    plan: Plan,
-    counter: u64,
-    clients: Vec<Client>,
-    keeper: K,
-    bag: Bag,
-    log: Log,
+pub struct World<S: Switch + Drop, K: Keeper + Drop> {
+    parties: Parties<S, K>,
     events: Vec<Event>,
 }
 
-impl<K: Keeper> Model for World<K> {
-    ghost use Rattle.far_world.specs.WorldView.{IsWorld, Ran, kept_by, state_of};
+impl<S: Switch + Drop, K: Keeper + Drop> Model for World<S, K> {
+    ghost use Rattle.far_world.specs.Reached.{IsReached, Ran, ran_to};
 
     ghost Value = { Ran };
 
-    ghost view = { λ w. record { plan = w.plan; events = w.events.items; state = state_of w.plan w.counter w.clients.items (K.records w.keeper) w.bag.messages w.log; keeper = kept_by (K.records w.keeper) (K.server_count w.keeper) (K.ceiling w.keeper) (K.fault_count w.keeper) } };
+    ghost view = { λ w. ran_to w.parties w.events.items };
 
-    ghost invariant = { λ w. IsWorld w.plan w.events.items (state_of w.plan w.counter w.clients.items (K.records w.keeper) w.bag.messages w.log) (kept_by (K.records w.keeper) (K.server_count w.keeper) (K.ceiling w.keeper) (K.fault_count w.keeper)) };
+    ghost invariant = { λ w. IsReached (ran_to w.parties w.events.items) };
 }
 
-ghost use Rattle.std.specs.Prelude.{◌≡◌, ◌≤◌, ◌<◌, ◌++◌, [], ◌∷◌, false, true, suc, length, replicate, IfOk, IfErr, OnOk, OnErr, IsErrOf};
-ghost use Rattle.std.specs.Option.{option_map};
-ghost use Rattle.far_base.specs.declared.plan.TheConstants.{OP_LIMIT};
-ghost use Rattle.far_model.specs.Events as model;
+ghost use Rattle.std.specs.Prelude.{◌≡◌, ◌≤◌, ◌++◌, [], ◌∷◌, false, true, IfOk, IfErr, OnErr, IsErrOf};
+ghost use Rattle.far_base.specs.Limits.{IsPlan};
 ghost use Rattle.far_model.specs.Answered.{AllAnswered};
 ghost use Rattle.far_model.specs.Runs as runs;
-ghost use Rattle.far_model.specs.State.{opening, clients_from};
-ghost use Rattle.far_invariants.specs.Uncached.{IsUncachedPlan};
-ghost use Rattle.far_model.specs.Work.{work_left};
+ghost use Rattle.far_model.specs.View.{opening_view};
 ghost use Rattle.far_outside.specs.Faults.{Rose};
-ghost use Rattle.far_world.specs.Linearizable.{HasOneLegalHistory};
-ghost use Rattle.far_world.specs.WorldView.{IsWorld, Tells};
+ghost use Rattle.far_world.specs.Reached.{HasStarted, HasStepped, IsReached, with_count};
+ghost use Rattle.far_world.specs.Scene.{keeper_of};
 
-#[tactic(auto, using(crate::proofs::Scripts::clients_more))]
-fn opening_clients(alloc: Global, ops: &[OpLine], count: u32) -> Result<Vec<Client>, Memory>
-    requires { length ops.now ≤ OP_LIMIT }
-    ensures { IfOk result (λ clients. clients.items ≡ clients_from ops.now 0 count) }
-{
-    let mut clients = Vec::new(alloc);
-    for number in 0..count {
-        clients
-            .push(Client::new(alloc, ops, number)?)
-            .map_err(|_| Memory)?;
-    }
-    Ok(clients)
-}
-
-impl<K: Keeper> World<K> {
-    /// The world of the plan, in which nothing has happened yet. The keeper begins with the plan's
-    /// servers, all without records. `KeeperFailed` only where the keeper's count of faults rose in
-    /// this call. After an error the keeper's records are as before.
-    pub fn start(alloc: Global, plan: Plan, keeper: K) -> Result<World<K>, Halted<K>>
-        requires { IsUncachedPlan plan }
-        ensures plan { IfOk result (λ world. world.plan ≡ plan) }
-        ensures events { IfOk result (λ world. world.events ≡ []) }
-        ensures state { IfOk result (λ world. world.state ≡ opening plan) }
-        ensures records { IfOk result (λ world. world.keeper.records ≡ option_map (λ all. replicate plan.config.servers []) (K.records keeper)) }
-        ensures later { IfOk result (λ world. K.fault_count keeper ≤ world.keeper.faults) }
+impl<S: Switch + Drop, K: Keeper + Drop> World<S, K> {
+    /// The world of the plan, in which nothing has happened yet. The switch is the opening one of the plan's config, in
+    /// epoch 1 and with counter 0. The keeper begins with the plan's servers, all without records. `KeeperFailed` only
+    /// where the keeper's count of faults rose in this call. After an error the keeper's records are as before.
+    pub fn start(
+        alloc: Global,
+        plan: Plan,
+        switch: S,
+        keeper: K,
+    ) -> Result<World<S, K>, Halted<S, K>>
+        requires valid { IsPlan plan }
+        requires view { S.seen switch ≡ opening_view plan.config 1 0 }
+        ensures started { IfOk result (λ world. HasStarted plan (keeper_of (K.records keeper) (K.server_count keeper) (K.ceiling keeper) (K.fault_count keeper)) world) }
         ensures err_plan { IfErr result (λ halted. halted.plan ≡ plan) }
+        ensures err_switch { IfErr result (λ halted. halted.switch ≡ switch) }
         ensures err_records { IfErr result (λ halted. K.records halted.keeper ≡ K.records keeper) }
         ensures err_servers { IfErr result (λ halted. K.server_count halted.keeper ≡ K.server_count keeper) }
         ensures err_ceiling { IfErr result (λ halted. K.ceiling halted.keeper ≡ K.ceiling keeper) }
         ensures err_later { IfErr result (λ halted. K.fault_count keeper ≤ K.fault_count halted.keeper) }
         ensures err_cause { IfErr result (λ halted. halted.cause ≡ StepFault.KeeperFailed → Rose (K.fault_count keeper) (K.fault_count halted.keeper)) }
     {
-        flight_laws::one_flight();
-        flight_laws::routes();
-        flight_laws::uncached_runs();
-        let mut keeper = keeper;
-        let clients = match opening_clients(alloc, &plan.ops, plan.config.clients) {
-            Ok(clients) => clients,
-            Err(_) => {
-                return Err(Halted {
-                    cause: StepFault::Memory,
-                    plan,
-                    keeper,
-                });
-            }
-        };
-        if let Err(fault) = keeper.begin(plan.config.servers) {
-            return Err(Halted {
-                cause: StepFault::from(fault),
-                plan,
-                keeper,
-            });
-        }
+        let parties = Parties::opened(alloc, plan, switch, keeper)?;
         Ok(World {
-            plan,
-            counter: 0,
-            clients,
-            keeper,
-            bag: Bag::new(alloc),
-            log: Log::new(alloc),
+            parties,
             events: Vec::new(alloc),
         })
     }
 
-    /// The event that the pick chooses happens. `KeeperFailed` only where the keeper's count of
-    /// faults rose in this call. After an error the world is as before but for that count.
+    /// The event that the pick chooses happens: the enabled order where there is one, and else the choice at the place
+    /// of the pick modulo the number of choices. `KeeperFailed` only where the keeper's count of faults rose in this
+    /// call. After an error the world is as before but for that count.
     pub fn step(&mut self, pick: u64) -> Result<Event, StepFault>
         requires { runs.is_quiet self.old.plan self.old.state ≡ false }
-        ensures plan { self.new.plan ≡ self.old.plan }
-        ensures chosen { IfOk result (λ event. event ≡ runs.next_event self.old.plan self.old.state pick) }
-        ensures enabled { IfOk result (λ event. model.is_enabled self.old.plan self.old.state event ≡ true) }
-        ensures events { IfOk result (λ event. self.new.events ≡ self.old.events ++ event ∷ []) }
-        ensures state { Tells self.old.keeper.records → IfOk result (λ event. self.new.state ≡ model.happens self.old.plan self.old.state event) }
-        ensures tells { Tells self.old.keeper.records → Tells self.new.keeper.records }
-        ensures work { OnOk result (suc (work_left self.new.plan self.new.state) ≤ work_left self.old.plan self.old.state) }
+        ensures stepped { IfOk result (λ event. HasStepped self.old pick event self.new) }
+        ensures err { OnErr result (self.new ≡ with_count self.old self.new.keeper.faults) }
         ensures later { self.old.keeper.faults ≤ self.new.keeper.faults }
-        ensures err { OnErr result (self.new ≡ record self.old { keeper = record self.old.keeper { faults = self.new.keeper.faults } }) }
         ensures cause { IsErrOf result StepFault.KeeperFailed → Rose self.old.keeper.faults self.new.keeper.faults }
     {
-        flight_laws::one_flight();
+        flight_laws::runs_are_sound();
+        flight_laws::runs_have_room();
+        flight_laws::runs_end();
         flight_laws::routes();
-        flight_laws::uncached_runs();
-        flight_laws::uncached_work();
-        let event = choose(&self.clients, &self.bag, pick);
-        if make_room(&mut self.bag, &mut self.log, &mut self.events).is_err() {
+        flight_laws::steps_counted();
+        let event = self.parties.next_event(pick);
+        if self.events.reserve(1).is_err() {
             return Err(StepFault::Memory);
         }
-        happen(
-            &self.plan,
-            &mut self.counter,
-            &mut self.clients,
-            &mut self.keeper,
-            &mut self.bag,
-            &mut self.log,
-            event,
-        )?;
+        self.parties.happen(event)?;
         self.events.push_reserved(event);
         Ok(event)
     }
 
-    /// How many events can happen now.
+    /// How many events can happen now; an enabled order counts too.
     pub fn enabled_count(&self) -> u32
         ensures { result ≡ runs.enabled_count self.now.plan self.now.state }
     {
-        flight_laws::uncached_runs();
-        flight_laws::uncached_work();
-        count_choices(&self.clients, &self.bag)
+        flight_laws::runs_are_sound();
+        flight_laws::runs_have_room();
+        self.parties.enabled_count()
     }
 
     /// Whether no event can happen.
     pub fn quiet(&self) -> bool
         ensures { result ≡ runs.is_quiet self.now.plan self.now.state }
     {
-        flight_laws::uncached_runs();
-        flight_laws::uncached_work();
-        count_choices(&self.clients, &self.bag) == 0
+        flight_laws::runs_are_sound();
+        flight_laws::runs_have_room();
+        self.parties.is_quiet()
     }
 
-    /// Whether every operation is answered and no message is on its way. This is so exactly where no
-    /// event can happen.
+    /// Whether every operation is answered, every order is done, the switch runs, and no message, want, eviction,
+    /// snapshot or recovery is left. This is so exactly where no event can happen.
     pub fn finished(&self) -> bool
         ensures value { result ≡ runs.is_finished self.now.plan self.now.state }
         ensures quiet { result ≡ runs.is_quiet self.now.plan self.now.state }
     {
-        flight_laws::uncached_quiet();
-        are_done(&self.clients) && self.bag.is_empty()
+        flight_laws::runs_end();
+        self.parties.is_finished()
     }
 
     /// What the world is to do.
     pub fn plan(&self) -> &Plan
         ensures { result.now ≡ self.now.plan }
     {
-        &self.plan
+        &self.parties.plan
     }
 
-    /// What happened, as the log keeps it.
+    /// What happened, as the log keeps it. The world is reached, and where it is finished every operation is answered,
+    /// whatever its keeper.
     pub fn log(&self) -> &Log
         ensures steps { result.now.steps ≡ self.now.state.steps }
         ensures lines { result.now.lines ≡ self.now.state.log }
-        ensures world { IsWorld self.now.plan self.now.events self.now.state self.now.keeper }
-        // Where the keeper tells its records, the history of the log is legal and keeps real-time order,
-        // whatever happened in which order.
-        ensures history { Tells self.now.keeper.records → HasOneLegalHistory self.now.state.log }
-        ensures answered { Tells self.now.keeper.records → runs.is_finished self.now.plan self.now.state ≡ true → AllAnswered self.now.plan self.now.state }
+        ensures reached { IsReached self.now }
+        ensures answered { runs.is_finished self.now.plan self.now.state ≡ true → AllAnswered self.now.plan self.now.state }
     {
-        history_laws::coherent_log();
-        run_laws::uncached_runs_are_coherent();
-        run_laws::finished_is_answered();
-        &self.log
+        flight_laws::runs_are_logged();
+        &self.parties.log
     }
 
-    /// The plan, the events that happened, the log, and the keeper.
-    pub fn into_parts(self) -> (Plan, Vec<Event>, Log, K)
+    /// The plan, the events of all steps in their order, the log, the switch and the keeper.
+    pub fn into_parts(self) -> (Plan, Vec<Event>, Log, S, K)
         ensures plan { result.0 ≡ self.plan }
         ensures events { result.1.items ≡ self.events }
         ensures steps { result.2.steps ≡ self.state.steps }
         ensures lines { result.2.lines ≡ self.state.log }
-        ensures records { K.records result.3 ≡ self.keeper.records }
-        ensures servers { K.server_count result.3 ≡ self.keeper.servers }
-        ensures ceiling { K.ceiling result.3 ≡ self.keeper.ceiling }
-        ensures faults { K.fault_count result.3 ≡ self.keeper.faults }
-        ensures world { IsWorld self.plan self.events self.state self.keeper }
+        ensures switch { S.seen result.3 ≡ self.state.switch }
+        ensures keeper { keeper_of (K.records result.4) (K.server_count result.4) (K.ceiling result.4) (K.fault_count result.4) ≡ self.keeper }
+        ensures reached { IsReached self }
     {
-        (self.plan, self.events, self.log, self.keeper)
+        let World { parties, events } = self;
+        let Parties {
+            plan,
+            switch,
+            running: _,
+            clients: _clients,
+            controller: _controller,
+            keeper,
+            bag: _bag,
+            passes: _,
+            done: _,
+            log,
+            alloc: _alloc,
+        } = parties;
+        (plan, events, log, switch, keeper)
     }
 }

@@ -1,0 +1,39 @@
+-- How far a world was run by the picks of a workload.
+use Rattle.std.specs.Prelude.{◌≡◌, ℕ, ◌+◌, ◌≤◌, false, List, [], ◌∷◌, ◌++◌, length, is_some}
+use Rattle.far_base.specs.PlanView.{PlanView}
+use Rattle.far_base.specs.declared.event.Event.{Event}
+use Rattle.far_model.specs.Events.{happens}
+use Rattle.far_model.specs.Runs.{IsPickedFrom, is_quiet, next_event, picks_after, run}
+use Rattle.far_model.specs.State.{State}
+use Rattle.far_model.specs.Work.{work_left}
+use Rattle.far_runner.specs.Picked.{pick_of}
+use Rattle.far_world.specs.Reached.{Ran}
+use Rattle.far_world.specs.Scene.{Tells}
+use Rattle.workload.specs.WorkView.{WorkView}
+
+-- each event is the one that the picks from number n on choose in its turn
+abbrev pub ArePicked : PlanView → (ℕ → ℕ) → ℕ → State → List Event → Type 0
+ArePicked plan pick n s [] = Unit {0}
+ArePicked plan pick n s (e ∷ es) = (is_quiet plan s ≡ false) × (e ≡ next_event plan s (pick n))
+    × ArePicked plan pick (picks_after plan s n) (happens plan s e) es
+
+-- the world has gone on by these events
+pub record HasGone (old new : Ran) (made : List Event) : Type 0 where
+  pub plan : new.plan ≡ old.plan
+  pub events : new.events ≡ old.events ++ made
+  pub work : length made + work_left new.plan new.state ≤ work_left old.plan old.state
+  pub tells : is_some new.keeper.records ≡ is_some old.keeper.records
+  pub told : Tells old.keeper.records → new.state ≡ run old.plan old.state made
+
+-- it was run to its end: over a keeper that tells its records by exactly the events that the picks choose
+pub record HasPumped (work : WorkView) (old new : Ran) (count : ℕ) : Type 0 where
+  pub made : List Event
+  pub gone : HasGone old new made
+  pub count_is : length made ≡ count
+  pub picked : Tells old.keeper.records → IsPickedFrom old.plan (pick_of work) 0 old.state made
+
+-- some of the events that the picks choose first have happened
+pub record HasPumpedSome (work : WorkView) (old new : Ran) : Type 0 where
+  pub made : List Event
+  pub gone : HasGone old new made
+  pub picked : Tells old.keeper.records → ArePicked old.plan (pick_of work) 0 old.state made

@@ -1,0 +1,106 @@
+ghost use Rattle.std.specs.Prelude.{◌≡◌, ℕ, ◌+◌, ◌^◌, ◌<◌, ◌≤◌, ◌++◌, slice_index, vec_len, vec_capacity, IfSome, option_to_list};
+ghost use Rattle.far_model.specs.Pass as model;
+ghost use Rattle.far_model.specs.Pass.{emitted_note, emitted_notes};
+ghost use Rattle.far_model.specs.Passes as counts;
+ghost use Rattle.far_world.specs.Passing.{numbered_by, place_of};
+
+use crate::turn::Turn;
+use far_base::{Body, LogEntry, Out, Packet};
+use switch_core::Switch;
+
+/// The number that a write got. It stands in the first packet that left.
+fn numbered(packet: &Packet, first: &Option<Out>) -> Option<LogEntry>
+    ensures { option_to_list result ≡ numbered_by packet.now first.now }
+{
+    match (*packet, *first) {
+        (Packet::WriteReq { op, .. }, Some(out)) => match out.packet {
+            Packet::WriteFwd { num, .. } => Some(LogEntry::Numbered { op, num }),
+            Packet::WriteAns { num, .. } => Some(LogEntry::Numbered { op, num }),
+            _ => None,
+        },
+        _ => None,
+    }
+}
+
+/// The answer that a packet is, where it is one.
+fn answer(packet: &Packet) -> Option<LogEntry>
+    ensures { option_to_list result ≡ emitted_note packet.now }
+{
+    match *packet {
+        Packet::GetAns {
+            op,
+            num,
+            body,
+            near,
+            ..
+        } => Some(LogEntry::Emitted {
+            op,
+            num,
+            body,
+            near,
+        }),
+        Packet::WriteAns { op, num, kept, .. } => Some(LogEntry::Emitted {
+            op,
+            num,
+            body: Body::absent(),
+            near: kept,
+        }),
+        _ => None,
+    }
+}
+
+/// The answer that left.
+fn emitted(first: &Option<Out>) -> Option<LogEntry>
+    ensures { option_to_list result ≡ emitted_notes first.now }
+{
+    match first {
+        Some(out) => answer(&out.packet),
+        None => None,
+    }
+}
+
+/// The place of the packet's kind among the counts of passes.
+fn place(packet: &Packet) -> Option<usize>
+    ensures place { result ≡ place_of (counts.pass_kind packet.now) }
+    ensures within { IfSome result (λ i. i < counts.PASS_KINDS) }
+{
+    match packet {
+        Packet::GetReq { .. } => Some(0),
+        Packet::WriteReq { .. } => Some(1),
+        Packet::GetRep { .. } => Some(2),
+        Packet::WriteRep { .. } => Some(3),
+        Packet::Admit { .. } => Some(4),
+        Packet::Peek { .. } => Some(5),
+        Packet::Remove { .. } => Some(6),
+        Packet::SnapStart { .. } => Some(7),
+        Packet::SnapFrom { .. } => Some(7),
+        Packet::SnapRead { .. } => Some(8),
+        _ => None,
+    }
+}
+
+/// Counts the packet that came to the switch.
+pub(crate) fn count_pass(passes: &mut [u64; 9], packet: &Packet)
+    requires { (i : ℕ) → slice_index passes.old i < 2 ^ 28 }
+    ensures { passes.new ≡ counts.with_pass passes.old packet.now }
+{
+    if let Some(place) = place(packet) {
+        passes[place] += 1;
+    }
+}
+
+/// A packet passes through the switch: what leaves goes into the turn, and what the log keeps of it.
+pub(crate) fn pass_through<S: Switch>(switch: &mut S, packet: &Packet, turn: &mut Turn)
+    requires counter { (S.seen switch.old).counter + 1 < 2 ^ 64 }
+    requires out { vec_len turn.old.out + 2 ≤ vec_capacity turn.old.out }
+    requires notes { vec_len turn.old.notes + 2 ≤ vec_capacity turn.old.notes }
+    ensures view { S.seen switch.new ≡ (model.pass (S.seen switch.old) packet.now).view }
+    ensures out { turn.new.out.items ≡ turn.old.out.items ++ model.passed_out (model.pass (S.seen switch.old) packet.now) }
+    ensures notes { turn.new.notes.items ≡ turn.old.notes.items ++ model.pass_notes packet.now (model.pass (S.seen switch.old) packet.now) }
+{
+    let emit = switch.pass(packet);
+    turn.send_if(&emit.first);
+    turn.send_if(&emit.second);
+    turn.note_if(numbered(packet, &emit.first));
+    turn.note_if(emitted(&emit.first));
+}

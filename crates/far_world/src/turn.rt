@@ -1,0 +1,139 @@
+ghost use Rattle.std.specs.Prelude.{◌≡◌, ◌+◌, ◌-◌, ◌^◌, ◌<◌, ◌≤◌, ◌++◌, [], ◌∷◌, length, vec_len, vec_capacity, option_to_list, IfOk, OnOk};
+ghost use Rattle.far_model.specs.Parties.{messages_from};
+ghost use Rattle.far_model.specs.Pass.{outs_of};
+ghost use Rattle.far_world.specs.Steps.{Logs};
+
+use crate::bag::Bag;
+use far_base::{LogEntry, LogLine, Memory, Out, Packet, Party, Record};
+use far_history::Log;
+use std::alloc::Global;
+
+/// What a party does in one step: what it sends, in order, and what the log keeps.
+#[derive(Drop)]
+pub(crate) struct Turn {
+    pub out: Vec<Out>,
+    pub notes: Vec<LogEntry>,
+}
+
+impl Turn {
+    /// Nothing, with room for so many packets and notes.
+    fn with_room(alloc: Global, out: usize, notes: usize) -> Result<Self, Memory>
+        ensures out { IfOk result (λ turn. turn.out.items ≡ []) }
+        ensures notes { IfOk result (λ turn. turn.notes.items ≡ []) }
+        ensures out_room { IfOk result (λ turn. out ≤ vec_capacity turn.out) }
+        ensures notes_room { IfOk result (λ turn. notes ≤ vec_capacity turn.notes) }
+    {
+        let out = Vec::with_capacity(alloc, out)?;
+        let notes = Vec::with_capacity(alloc, notes)?;
+        Ok(Turn { out, notes })
+    }
+
+    /// Sends a packet, for which there is room.
+    pub(crate) fn send(&mut self, to: Party, packet: Packet)
+        requires { vec_len self.old.out < vec_capacity self.old.out }
+        ensures out { self.new.out.items ≡ self.old.out.items ++ record { to = to; packet = packet } ∷ [] }
+        ensures notes { self.new.notes ≡ self.old.notes }
+        ensures room { vec_capacity self.new.out ≡ vec_capacity self.old.out }
+    {
+        let none: Option<Record> = None;
+        let _ = none;
+        self.out.push_reserved(Out { to, packet });
+    }
+
+    /// Sends a packet where there is one, for which there is room.
+    pub(crate) fn send_if(&mut self, out: &Option<Out>)
+        requires { vec_len self.old.out < vec_capacity self.old.out }
+        ensures out { self.new.out.items ≡ self.old.out.items ++ outs_of out.now }
+        ensures notes { self.new.notes ≡ self.old.notes }
+        ensures room { vec_capacity self.new.out ≡ vec_capacity self.old.out }
+    {
+        if let Some(out) = out {
+            self.send(out.to, out.packet);
+        }
+    }
+
+    /// Notes what happened where there is something, for which there is room.
+    pub(crate) fn note_if(&mut self, entry: Option<LogEntry>)
+        requires { vec_len self.old.notes < vec_capacity self.old.notes }
+        ensures notes { self.new.notes.items ≡ self.old.notes.items ++ option_to_list entry }
+        ensures out { self.new.out ≡ self.old.out }
+        ensures room { vec_capacity self.new.notes ≡ vec_capacity self.old.notes }
+    {
+        if let Some(entry) = entry {
+            self.note(entry);
+        }
+    }
+
+    /// Notes what happened, for which there is room.
+    pub(crate) fn note(&mut self, entry: LogEntry)
+        requires { vec_len self.old.notes < vec_capacity self.old.notes }
+        ensures notes { self.new.notes.items ≡ self.old.notes.items ++ entry ∷ [] }
+        ensures out { self.new.out ≡ self.old.out }
+        ensures room { vec_capacity self.new.notes ≡ vec_capacity self.old.notes }
+    {
+        self.notes.push_reserved(entry);
+    }
+}
+
+/// Makes room for so many packets and notes, and gives a turn of none.
+pub(crate) fn make_room(
+    alloc: Global,
+    bag: &mut Bag,
+    log: &mut Log,
+    out: u32,
+    notes: usize,
+) -> Result<Turn, Memory>
+    ensures messages { bag.new.messages ≡ bag.old.messages }
+    ensures steps { log.new.steps ≡ log.old.steps }
+    ensures lines { log.new.lines ≡ log.old.lines }
+    ensures bag_room { OnOk result (out ≤ bag.new.room) }
+    ensures log_room { OnOk result (notes ≤ log.new.room) }
+    ensures turn { IfOk result (λ turn. turn.out.items ≡ []) }
+    ensures turn_notes { IfOk result (λ turn. turn.notes.items ≡ []) }
+    ensures out_room { IfOk result (λ turn. out ≤ vec_capacity turn.out) }
+    ensures notes_room { IfOk result (λ turn. notes ≤ vec_capacity turn.notes) }
+{
+    bag.reserve(out)?;
+    log.reserve(notes)?;
+    Turn::with_room(alloc, out as usize, notes)
+}
+
+/// Puts what a party sends behind the other messages.
+fn send_all(bag: &mut Bag, from: Party, outs: &[Out])
+    requires room { length outs.now ≤ bag.old.room }
+    requires few { length bag.old.messages + length outs.now < 2 ^ 31 }
+    ensures { bag.new.messages ≡ bag.old.messages ++ messages_from from outs.now }
+{
+    for out in outs {
+        bag.post(from, out);
+    }
+}
+
+/// Counts one more step, and logs what happened in it.
+fn note_all(log: &mut Log, notes: &[LogEntry])
+    requires room { length notes.now ≤ log.old.room }
+    requires steps { log.old.steps + 1 < 2 ^ 64 }
+    ensures { Logs log.old log.new notes.now }
+{
+    let moment = log.steps() + 1;
+    log.set_steps(moment);
+    for entry in notes {
+        log.push(LogLine {
+            moment,
+            entry: *entry,
+        });
+    }
+}
+
+/// One step is made: the turn's packets go behind the other messages, and its notes into the log.
+pub(crate) fn post(bag: &mut Bag, log: &mut Log, from: Party, turn: &Turn)
+    requires bag_room { vec_len turn.now.out ≤ bag.old.room }
+    requires few { length bag.old.messages + vec_len turn.now.out < 2 ^ 31 }
+    requires log_room { vec_len turn.now.notes ≤ log.old.room }
+    requires steps { log.old.steps + 1 < 2 ^ 64 }
+    ensures bag { bag.new.messages ≡ bag.old.messages ++ messages_from from turn.now.out.items }
+    ensures log { Logs log.old log.new turn.now.notes.items }
+{
+    send_all(bag, from, &turn.out);
+    note_all(log, &turn.notes);
+}
