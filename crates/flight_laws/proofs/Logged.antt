@@ -1,5 +1,5 @@
 -- What the log keeps of operations, in every run, and that all are answered where nothing is left to do.
-use Rattle.std.proofs.Common.{◌≡◌, ◌≢◌, ℕ, zero, suc, ◌+◌, ◌-◌, ◌≤◌, ◌⊎◌, inl, inr, true, false, List, [], ◌∷◌, map, refl, sym, ap, ◌∙◌, subst, arith, le_trans, true≢false, eqb}
+use Rattle.std.proofs.Common.{◌≡◌, ◌≢◌, ℕ, zero, suc, ◌+◌, ◌-◌, ◌≤◌, ◌⊎◌, inl, inr, true, false, List, [], ◌∷◌, length, map, refl, sym, ap, ◌∙◌, subst, arith, le_trans, true≢false, eqb}
 use Rattle.std.specs.Prelude.{Option, Some, None, is_some, not, slice_index_or}
 use Rattle.std.specs.List.{list_all}
 use Rattle.std.proofs.lemmas.Bool.{and_parts}
@@ -8,13 +8,15 @@ use Rattle.std.proofs.lemmas.Option.{same_Some}
 use Rattle.far_base.specs.Limits.{IsPlan}
 use Rattle.far_base.specs.PlanView.{PlanView}
 use Rattle.far_base.specs.declared.log.LogEntry.{LogEntry}
-use Rattle.far_base.specs.declared.log.LogEntry.TheVariants.{Sent, Numbered, Emitted, Answered}
+use Rattle.far_base.specs.declared.log.LogEntry.TheVariants.{Sent, Numbered, Emitted, Answered, Recovered}
 use Rattle.far_base.specs.declared.log.LogLine.{LogLine}
 use Rattle.far_base.specs.declared.plan.OpLine.{OpLine}
 use Rattle.far_model.specs.Answered.{AllAnswered}
 use Rattle.far_model.specs.Clients.{ClientState, line_of, no_line, opening_client}
 use Rattle.far_model.specs.Coherent.{WasSent}
-use Rattle.far_model.specs.Events.{happens_with, has_next}
+use Rattle.far_base.specs.declared.event.Event.{Event}
+use Rattle.far_base.specs.declared.record.Record.{Record}
+use Rattle.far_model.specs.Events.{Keeping, happens_with, has_next, recovery_items}
 use Rattle.far_model.specs.Log.{answered_by, first_told, or_later}
 use Rattle.far_model.specs.Members.{Among, Each, Pairs}
 use Rattle.far_model.specs.Replies.{IsRunWith, KeptEvent, ceiling_after, run_with}
@@ -24,7 +26,7 @@ use Rattle.far_model.proofs.Members.{among_map_from, each_among, pairs_append}
 use Rattle.far_invariants.proofs.Noted.{IsNote, log_cases, member, note_member}
 use Rattle.far_invariants.specs.Invariants.{IsTimely, SendsByPlan, TellsOf}
 use Rattle.far_invariants.specs.Logged.{OperationsAreLogged, WasAnswered}
-use Rattle.far_invariants.specs.Notes.{ClientsAre, ClientsGoOn, EventNotes, IsOfNone, IsPassNote, OfAnswer, OfNone, OfPass, OfSending}
+use Rattle.far_invariants.specs.Notes.{ClientsAre, ClientsGoOn, EventNotes, IsOfNone, IsPassNote, OfAnswer, OfNone, OfPass, OfRestart, OfSending}
 use Rattle.far_invariants.specs.Sent.{AreSentOrLeft, HasBeenSent}
 use Rattle.flight_laws.proofs.Handling.{IsInFlight, flight_opens, flight_step}
 use Rattle.flight_laws.proofs.Noting.{event_notes}
@@ -268,12 +270,29 @@ module _ (plan : PlanView) (s t : State) (steps : t.steps ≡ s.steps + 1) (h : 
     left = λ other above within. sending_left other (h.left other above within) (eqb_tells (line_of plan.ops other).client c);
   }
 
-module _ (plan : PlanView) (s t : State) (steps : t.steps ≡ s.steps + 1) (h : OperationsAreLogged plan s) where
-  logs : EventNotes plan s t → OperationsAreLogged plan t
+module _ (plan : PlanView) (k : Keeping) (s : State) (e : Event) (t : State) (steps : t.steps ≡ s.steps + 1) (h : OperationsAreLogged plan s) where
+  logs : EventNotes plan k s e t → OperationsAreLogged plan t
   logs (OfNone notes log each on) = goes_on plan s t notes log steps h on (nothing_told plan s notes each)
       (λ op line a. each_among IsOfNone (Sent op line) notes each a)
   logs (OfPass c op notes waits log each few on) = goes_on plan s t notes log steps h on (passes_told plan s op (h.waited c op waits).0 notes each)
       (λ other line a. each_among (IsPassNote op) (Sent other line) notes each a)
+  logs (OfRestart counter is able log on) = goes_on plan s t notes log steps h on (tt, items k.records) none
+    where
+      notes : List LogEntry
+      notes = Recovered counter (length k.records) ∷ recovery_items k.records
+
+      items : (records : List Record) → Each (TellsOfSent plan s) (recovery_items records)
+      items [] = tt
+      items (r ∷ rs) = (tt, items rs)
+
+      unsent : (op : ℕ) (line : OpLine) (records : List Record) → Among (Sent op line) (recovery_items records) → ⊥
+      unsent op line [] a = a
+      unsent op line (r ∷ rs) (inl q) = cc
+      unsent op line (r ∷ rs) (inr a) = unsent op line rs a
+
+      none : (op : ℕ) (line : OpLine) → (Sent op line ≡ Recovered counter (length k.records)) ⊎ Among (Sent op line) (recovery_items k.records) → ⊥
+      none op line (inl q) = cc
+      none op line (inr a) = unsent op line k.records a
   logs (OfAnswer c op waits log are) = answer_logs plan s t steps h c op waits log are
   logs (OfSending c op rest none is log are) = sending_logs plan s t steps h c op rest none is log are
 
@@ -306,7 +325,7 @@ logged_run plan ceiling s [] f h r = h
 logged_run plan ceiling s (e ∷ es) f h r =
     let t : State = happens_with plan e.keeping s e.event in
     logged_run plan (ceiling_after s e.event ceiling) t es (flight_step plan e.keeping s e.event f r.1.kind r.0)
-    (logs plan s t (step_counted plan e.keeping s e.event r.0) h (event_notes plan e.keeping s f.routed f.one e.event r.0)) r.2
+    (logs plan e.keeping s e.event t (step_counted plan e.keeping s e.event r.0) h (event_notes plan e.keeping s f.routed f.one e.event r.0)) r.2
 
 pub kept_logged : (plan : PlanView) (events : List KeptEvent) → IsPlan plan → IsRunWith plan 0 (opening plan) events → OperationsAreLogged plan (run_with plan (opening plan) events)
 kept_logged plan events valid r = logged_run plan 0 (opening plan) events (flight_opens plan) (opening_logged plan valid) r

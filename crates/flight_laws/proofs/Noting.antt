@@ -30,7 +30,7 @@ use Rattle.far_model.specs.View.{SwitchView}
 use Rattle.far_model.proofs.Members.{among_append_left, among_at}
 use Rattle.far_invariants.specs.DrawnNumbers.{is_numbering}
 use Rattle.far_invariants.specs.Flights.{IsFor, IsRouted, OneFlightPerOperation, Subject, OfAdmission, OfEviction, OfJob, OfNone as OfNothing, OfOperation, OfRound, OfSnapshot, subject}
-use Rattle.far_invariants.specs.Notes.{ClientsAre, ClientsGoOn, EventNotes, IsOfNone, IsPassNote, IsSlotNote, OfAnswer, OfNone, OfPass, OfSending}
+use Rattle.far_invariants.specs.Notes.{ClientsAre, ClientsGoOn, EventNotes, IsOfNone, IsPassNote, IsSlotNote, OfAnswer, OfNone, OfPass, OfRestart, OfSending}
 use Rattle.flight_laws.proofs.Counts.{count_append}
 use Rattle.flight_laws.proofs.Lists.{by_test, each_map, set_field}
 use Rattle.flight_laws.proofs.Passing.{PassSends, pass_sends}
@@ -51,10 +51,6 @@ items_of_none : (i : ℕ) (views : List (Option Record)) → Each IsOfNone (view
 items_of_none i [] = tt
 items_of_none i (None ∷ views) = items_of_none (suc i) views
 items_of_none i (Some item ∷ views) = (tt, items_of_none (suc i) views)
-
-records_of_none : (records : List Record) → Each IsOfNone (recovery_items records)
-records_of_none [] = tt
-records_of_none (r ∷ rs) = (tt, records_of_none rs)
 
 abbrev TellsNone : Turn ControllerState → Type 0
 TellsNone t = Each IsOfNone t.notes
@@ -148,8 +144,8 @@ go_on_same s t e = record {
 preserves_same : (w : ClientState) (kept : Bool) (r : Record) → ((preserves w kept r).waits ≡ w.waits) × ((preserves w kept r).left ≡ w.left)
 preserves_same w kept r = by_test (λ (x : ClientState). (x.waits ≡ w.waits) × (x.left ≡ w.left)) (kept && nat_lt w.released r.num) _ w (refl, refl) (refl, refl)
 
-module _ (plan : PlanView) (k : Keeping) (s : State) (routed : IsRouted plan s) (one : OneFlightPerOperation s) where
-  still : EventNotes plan s s
+module _ (plan : PlanView) (k : Keeping) (s : State) (event : Event) (routed : IsRouted plan s) (one : OneFlightPerOperation s) where
+  still : EventNotes plan k s event s
   still = OfNone [] (sym (append-nil s.log)) tt (go_on_same s s refl)
 
   set_are : (c : ℕ) (w : ClientState) (t : State) → c < length s.clients → t.clients ≡ slice_set s.clients c w → ClientsAre s t c w.waits w.left
@@ -162,11 +158,11 @@ module _ (plan : PlanView) (k : Keeping) (s : State) (routed : IsRouted plan s) 
       at_c : {B : Type 0} (f : ClientState → B) → f (client_at t c) ≡ f w
       at_c f = ap (λ (cs : List ClientState). f (slice_index_or cs c nobody)) e ∙ ap f (get_or-set_same s.clients c w nobody within)
 
-  controls : (rest : List Message) (t : Turn ControllerState) → TellsNone t → EventNotes plan s (controller_turn s rest t)
+  controls : (rest : List Message) (t : Turn ControllerState) → TellsNone t → EventNotes plan k s event (controller_turn s rest t)
   controls rest t h = OfNone t.notes refl h (go_on_same s _ refl)
 
   answers : (rest : List Message) (c op : ℕ) (w : ClientState) (out : List Out) → c < length s.clients → (client_at s c).waits ≡ Some op → w.waits ≡ None → w.left ≡ (client_at s c).left
-      → EventNotes plan s (client_turn s c rest (record { state = w; out = out; notes = Answered op ∷ [] }))
+      → EventNotes plan k s event (client_turn s c rest (record { state = w; out = out; notes = Answered op ∷ [] }))
   answers rest c op w out within waits none left =
       let t : State = client_turn s c rest (record { state = w; out = out; notes = Answered op ∷ [] }) in
       let are : ClientsAre s t c w.waits w.left = set_are c w t within refl in
@@ -176,7 +172,7 @@ module _ (plan : PlanView) (k : Keeping) (s : State) (routed : IsRouted plan s) 
     its : (caller op : ℕ) → subject m.packet ≡ OfOperation caller op → (caller < length s.clients) × ((client_at s caller).waits ≡ Some op)
     its caller op of = one.waited m caller op (among_at m s.bag i at) of
 
-    at_client : (rest : List Message) (c : ℕ) (p : Packet) → m.packet ≡ p → IsFor plan.config p (Client c) → EventNotes plan s (client_turn s c rest (client_takes plan.ops c (client_at s c) p))
+    at_client : (rest : List Message) (c : ℕ) (p : Packet) → m.packet ≡ p → IsFor plan.config p (Client c) → EventNotes plan k s event (client_turn s c rest (client_takes plan.ops c (client_at s c) p))
     at_client rest c (GetAns caller op key num body near) e goes =
         let same : caller ≡ c = sym (number_is goes) in
         let w = its caller op (ap subject e) in
@@ -198,10 +194,10 @@ module _ (plan : PlanView) (k : Keeping) (s : State) (routed : IsRouted plan s) 
       left = λ other. set_field (λ (w : ClientState). w.left) s.clients c (client_takes plan.ops c (client_at s c) p).state nobody refl other;
     })
 
-    at_switch : (rest : List Message) (p : Packet) → m.packet ≡ p → IsFor plan.config p Switch → EventNotes plan s (handled plan k s rest Switch p)
+    at_switch : (rest : List Message) (p : Packet) → m.packet ≡ p → IsFor plan.config p Switch → EventNotes plan k s event (handled plan k s rest Switch p)
     at_switch rest p e goes = go (subject p) refl (pass_of s.switch p (subst (λ c. IsFor c p Switch) (sym routed.switch) goes))
       where
-        of_none : (sub : Subject) → ((caller op : ℕ) → sub ≡ OfOperation caller op → ⊥) → Each (IsNoteOf sub) (pass_notes p (pass s.switch p)) → EventNotes plan s (handled plan k s rest Switch p)
+        of_none : (sub : Subject) → ((caller op : ℕ) → sub ≡ OfOperation caller op → ⊥) → Each (IsNoteOf sub) (pass_notes p (pass s.switch p)) → EventNotes plan k s event (handled plan k s rest Switch p)
         of_none sub apart h = OfNone (pass_notes p (pass s.switch p)) refl (each_map (IsNoteOf sub) IsOfNone (pass_notes p (pass s.switch p)) none h) (go_on_same s _ refl)
           where
             none : (e : LogEntry) → IsNoteOf sub e → IsOfNone e
@@ -209,7 +205,7 @@ module _ (plan : PlanView) (k : Keeping) (s : State) (routed : IsRouted plan s) 
             none (Emitted op num body near) n = apart n.0 op n.1
             none _ n = absurd n
 
-        go : (sub : Subject) → subject p ≡ sub → Each (IsNoteOf (subject p)) (pass_notes p (pass s.switch p)) → EventNotes plan s (handled plan k s rest Switch p)
+        go : (sub : Subject) → subject p ≡ sub → Each (IsNoteOf (subject p)) (pass_notes p (pass s.switch p)) → EventNotes plan k s event (handled plan k s rest Switch p)
         go (OfOperation caller op) of h =
             OfPass caller op (pass_notes p (pass s.switch p)) (its caller op (ap subject e ∙ of)).1 refl
             (each_map (IsNoteOf (subject p)) (IsPassNote op) (pass_notes p (pass s.switch p)) mine h) (pass_counts p (pass s.switch p)) (go_on_same s _ refl)
@@ -228,19 +224,19 @@ module _ (plan : PlanView) (k : Keeping) (s : State) (routed : IsRouted plan s) 
         go (OfRound round) of h = of_none (OfRound round) (λ caller op q. cc) (subst (λ z. Each (IsNoteOf z) (pass_notes p (pass s.switch p))) of h)
         go OfNothing of h = of_none OfNothing (λ caller op q. cc) (subst (λ z. Each (IsNoteOf z) (pass_notes p (pass s.switch p))) of h)
 
-    handled_notes : (rest : List Message) (to : Party) → m.to ≡ to → IsFor plan.config m.packet to → EventNotes plan s (handled plan k s rest to m.packet)
+    handled_notes : (rest : List Message) (to : Party) → m.to ≡ to → IsFor plan.config m.packet to → EventNotes plan k s event (handled plan k s rest to m.packet)
     handled_notes rest (Client c) e goes = at_client rest c m.packet refl goes
     handled_notes rest Switch e goes = at_switch rest m.packet refl goes
     handled_notes rest (Server n) e goes = OfNone [] refl tt (go_on_same s _ refl)
     handled_notes rest Controller e goes = controls rest (controller_takes plan.config s.controller m.packet) (takes_tells plan s.controller m.packet)
 
   sends_notes : (c : ℕ) (left : List ℕ) → (client_at s c).left ≡ left → has_next left ≡ true → (client_at s c).waits ≡ None → c < length s.clients
-      → EventNotes plan s (client_turn s c s.bag (next_sent plan.ops c (client_at s c) left))
+      → EventNotes plan k s event (client_turn s c s.bag (next_sent plan.ops c (client_at s c) left))
   sends_notes c [] e next none within = absurd (true≢false (sym next))
   sends_notes c (op ∷ left) e next none within =
       OfSending c op left none e refl (set_are c (record (client_at s c) { waits = Some op; left = left }) (client_turn s c s.bag (next_sent plan.ops c (client_at s c) (op ∷ left))) within refl)
 
-  order_notes : (o : Option Order) → EventNotes plan s (does_order plan s o)
+  order_notes : (o : Option Order) → EventNotes plan k s event (does_order plan s o)
   order_notes None = still
   order_notes (Some (AdmitOrder step key)) = controls s.bag (idle (wanted key s.controller)) tt
   order_notes (Some (EvictOrder step key)) = controls s.bag (evict_key key s.controller) (aside_tells s.controller (evict_key key s.controller) (evict_aside s.controller key))
@@ -248,32 +244,33 @@ module _ (plan : PlanView) (k : Keeping) (s : State) (routed : IsRouted plan s) 
   order_notes (Some (StopOrder step)) = OfNone (Stopped ∷ []) refl (tt, tt) (go_on_same s _ refl)
   order_notes (Some (StopAtOrder kind times)) = OfNone (Stopped ∷ []) refl (tt, tt) (go_on_same s _ refl)
 
-  done_notes : (t : State) (n : ℕ) → EventNotes plan s t → EventNotes plan s (record t { done = n })
+  done_notes : (t : State) (n : ℕ) → EventNotes plan k s event t → EventNotes plan k s event (record t { done = n })
   done_notes t n (OfSending c op left none is log are) = OfSending c op left none is log (record { waits_are = are.waits_are; left_are = are.left_are; others = are.others })
   done_notes t n (OfAnswer c op waits log are) = OfAnswer c op waits log (record { waits_are = are.waits_are; left_are = are.left_are; others = are.others })
   done_notes t n (OfPass c op notes waits log each few on) = OfPass c op notes waits log each few (record { waits = on.waits; left = on.left })
   done_notes t n (OfNone notes log each on) = OfNone notes log each (record { waits = on.waits; left = on.left })
+  done_notes t n (OfRestart counter is able log on) = OfRestart counter is able log (record { waits = on.waits; left = on.left })
 
-  pub event_notes : (e : Event) → is_enabled plan s e ≡ true → EventNotes plan s (happens_with plan k s e)
-  event_notes (Send c) able = sends_notes c (client_at s c).left refl (and_parts _ _ able).1 (none_from (client_at s c).waits (and_parts _ _ able).0) (client_within s c (and_parts _ _ able).1)
-    where
-      none_from : (o : Option ℕ) → not (is_some o) ≡ true → o ≡ None
-      none_from None e = refl
-      none_from (Some x) e = absurd (true≢false (sym e))
-  event_notes (Deliver i) able = go (slice_get s.bag i) refl
-    where
-      go : (o : Option Message) → slice_get s.bag i ≡ o → EventNotes plan s (delivers plan k s i o)
-      go None e = still
-      go (Some m) e = handled_notes i m e (remove s.bag i) m.to refl (routed.messages m (among_at m s.bag i e)).target
-  event_notes Tick able = go (tick s.controller) refl
-    where
-      go : (o : Option (Turn ControllerState)) → tick s.controller ≡ o → EventNotes plan s (ticks s o)
-      go None e = still
-      go (Some t) e = controls s.bag t (aside_tells s.controller t (tick_aside s.controller t e))
-  event_notes Recover able = OfNone [] refl tt (go_on_same s _ refl)
-  event_notes Restart able = go (ready s.controller)
-    where
-      go : (o : Option ℕ) → EventNotes plan s (restarts plan k s o)
-      go None = still
-      go (Some n) = OfNone (Recovered n (length k.records) ∷ recovery_items k.records) refl (tt, records_of_none k.records) (go_on_same s _ refl)
-  event_notes (OrderOf j) able = done_notes (does_order plan s (slice_get plan.orders j)) (s.done + 1) (order_notes (slice_get plan.orders j))
+pub event_notes : (plan : PlanView) (k : Keeping) (s : State) → IsRouted plan s → OneFlightPerOperation s → (e : Event) → is_enabled plan s e ≡ true → EventNotes plan k s e (happens_with plan k s e)
+event_notes plan k s routed one (Send c) able = sends_notes plan k s (Send c) routed one c (client_at s c).left refl (and_parts _ _ able).1 (none_from (client_at s c).waits (and_parts _ _ able).0) (client_within s c (and_parts _ _ able).1)
+  where
+    none_from : (o : Option ℕ) → not (is_some o) ≡ true → o ≡ None
+    none_from None e = refl
+    none_from (Some x) e = absurd (true≢false (sym e))
+event_notes plan k s routed one (Deliver i) able = go (slice_get s.bag i) refl
+  where
+    go : (o : Option Message) → slice_get s.bag i ≡ o → EventNotes plan k s (Deliver i) (delivers plan k s i o)
+    go None e = (still plan k s (Deliver i) routed one)
+    go (Some m) e = handled_notes plan k s (Deliver i) routed one i m e (remove s.bag i) m.to refl (routed.messages m (among_at m s.bag i e)).target
+event_notes plan k s routed one Tick able = go (tick s.controller) refl
+  where
+    go : (o : Option (Turn ControllerState)) → tick s.controller ≡ o → EventNotes plan k s Tick (ticks s o)
+    go None e = (still plan k s Tick routed one)
+    go (Some t) e = controls plan k s Tick routed one s.bag t (aside_tells s.controller t (tick_aside s.controller t e))
+event_notes plan k s routed one Recover able = OfNone [] refl tt (go_on_same s _ refl)
+event_notes plan k s routed one Restart able = go (ready s.controller) refl
+  where
+    go : (o : Option ℕ) → ready s.controller ≡ o → EventNotes plan k s Restart (restarts plan k s o)
+    go None is = (still plan k s Restart routed one)
+    go (Some n) is = OfRestart n refl is refl (go_on_same s _ refl)
+event_notes plan k s routed one (OrderOf j) able = done_notes plan k s (OrderOf j) routed one (does_order plan s (slice_get plan.orders j)) (s.done + 1) (order_notes plan k s (OrderOf j) routed one (slice_get plan.orders j))

@@ -8,14 +8,16 @@ use Rattle.far_base.specs.declared.log.LogEntry.TheVariants.{Sent, Numbered, Emi
 use Rattle.far_base.specs.declared.log.LogLine.{LogLine}
 use Rattle.far_base.specs.declared.packet.Message.{Message}
 use Rattle.far_model.specs.Clients.{line_of}
-use Rattle.far_model.specs.Events.{Keeping, happens_with, is_enabled}
+use Rattle.far_base.specs.declared.event.Event.{Event}
+use Rattle.far_base.specs.declared.record.Record.{Record}
+use Rattle.far_model.specs.Events.{Keeping, happens_with, is_enabled, recovery_items}
 use Rattle.far_model.specs.Members.{Among, Each}
 use Rattle.far_model.specs.Replies.{IsRunWith, KeptEvent, ceiling_after, ceiling_with, run_with}
 use Rattle.far_model.specs.State.{State, line_at, noted, now, opening}
 use Rattle.far_model.specs.Work.{work_bound, work_left}
 use Rattle.far_invariants.specs.DrawnNumbers.{drawn_count, is_numbering}
 use Rattle.far_invariants.specs.Flights.{IsRouted, OneFlightPerOperation}
-use Rattle.far_invariants.specs.Notes.{EventNotes, IsOfNone, OfAnswer, OfNone, OfPass, OfSending}
+use Rattle.far_invariants.specs.Notes.{EventNotes, IsOfNone, OfAnswer, OfNone, OfPass, OfRestart, OfSending}
 use Rattle.far_invariants.specs.Room.{HasRoom}
 use Rattle.far_invariants.specs.Sizes.{is_store}
 use Rattle.flight_laws.proofs.Bounds.{bound_small, opening_within}
@@ -56,8 +58,12 @@ none_counted (e ∷ es) h = let a = count_cons is_numbering e es in let b = coun
     one (Snapped id point count same) k = refl
     one (SnapItem slot item) k = refl
     one Stopped k = refl
-    one (Recovered counter count) k = refl
-    one (RecItem item) k = refl
+    one (Recovered counter count) k = absurd k
+    one (RecItem item) k = absurd k
+
+items_counted : (records : List Record) → count_by is_numbering (recovery_items records) ≡ 0
+items_counted [] = refl
+items_counted (r ∷ rs) = let a = count_cons is_numbering (RecItem r) (recovery_items rs) in let b = items_counted rs in omega (arith, a, b)
 
 noted_few : (s t : State) (notes : List LogEntry) → t.log ≡ noted s notes → count_by is_numbering notes ≤ 1 → drawn_count t.log ≤ drawn_count s.log + 1
 noted_few s t notes log few =
@@ -66,18 +72,20 @@ noted_few s t notes log few =
     let c = mapped_count (now s) notes in
     omega (arith, a, b, c, few)
 
-notes_few : (plan : PlanView) (s t : State) → EventNotes plan s t → drawn_count t.log ≤ drawn_count s.log + 1
-notes_few plan s t (OfSending c op left none is log are) = noted_few s t (Sent op (line_of plan.ops op) ∷ []) log (omega arith)
-notes_few plan s t (OfAnswer c op waits log are) = noted_few s t (Answered op ∷ []) log (omega arith)
-notes_few plan s t (OfPass c op notes waits log each few on) = noted_few s t notes log few
-notes_few plan s t (OfNone notes log each on) = noted_few s t notes log (let z = none_counted notes each in omega (arith, z))
+notes_few : (plan : PlanView) (k : Keeping) (s : State) (e : Event) (t : State) → EventNotes plan k s e t → drawn_count t.log ≤ drawn_count s.log + 1
+notes_few plan k s e t (OfSending c op left none is log are) = noted_few s t (Sent op (line_of plan.ops op) ∷ []) log (omega arith)
+notes_few plan k s e t (OfAnswer c op waits log are) = noted_few s t (Answered op ∷ []) log (omega arith)
+notes_few plan k s e t (OfPass c op notes waits log each few on) = noted_few s t notes log few
+notes_few plan k s e t (OfNone notes log each on) = noted_few s t notes log (let z = none_counted notes each in omega (arith, z))
+notes_few plan k s e t (OfRestart counter is able log on) = noted_few s t (Recovered counter (length k.records) ∷ recovery_items k.records) log
+    (let a = count_cons is_numbering (Recovered counter (length k.records)) (recovery_items k.records) in let b = items_counted k.records in omega (arith, a, b))
 
 counted_run : (plan : PlanView) (ceiling : ℕ) (s : State) (events : List KeptEvent) → IsInFlight plan s → drawn_count s.log ≤ s.steps → IsRunWith plan ceiling s events
     → drawn_count (run_with plan s events).log ≤ (run_with plan s events).steps
 counted_run plan ceiling s [] h b r = b
 counted_run plan ceiling s (e ∷ es) h b r =
     let t : State = happens_with plan e.keeping s e.event in
-    let few = notes_few plan s t (event_notes plan e.keeping s h.routed h.one e.event r.0) in
+    let few = notes_few plan e.keeping s e.event t (event_notes plan e.keeping s h.routed h.one e.event r.0) in
     let one = step_counted plan e.keeping s e.event r.0 in
     counted_run plan (ceiling_after s e.event ceiling) t es (flight_step plan e.keeping s e.event h r.1.kind r.0) (omega (arith, few, one, b)) r.2
 

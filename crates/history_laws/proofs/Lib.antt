@@ -1,3 +1,4 @@
+pub mod Existing
 pub mod Exposed
 pub mod Facts
 pub mod Places

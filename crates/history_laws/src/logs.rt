@@ -6,16 +6,15 @@ ghost use Rattle.far_base.specs.declared.log.LogLine.{LogLine};
 ghost use Rattle.far_base.specs.declared.log.Placed.{Placed};
 ghost use Rattle.far_invariants.specs.ClientOrder.{KeepsClientOrder};
 ghost use Rattle.far_model.specs.Coherent.{IsCoherent};
-ghost use Rattle.far_model.specs.History.{IsFinalMap, IsHistory, IsLegal, IsLinearizable, IsPlace, KeepsRealTimeOrder, key_of};
+ghost use Rattle.far_model.specs.History.{HasOneLegalHistory, IsFinalMap, IsHistory, IsLinearizable, IsPlace, key_of};
 ghost use Rattle.far_model.specs.Log.{At, answering, exposed, numbering};
 ghost use Rattle.far_model.specs.Members.{Among};
 
 /// The history of a coherent log is legal and keeps real-time order, and with it each client's
 /// own order.
 pub fn coherent_log()
-    ensures legal { (log : List LogLine) (history : List Placed) → IsCoherent log → IsHistory log history → IsLegal log history }
-    ensures in_time { (log : List LogLine) (history : List Placed) → IsCoherent log → IsHistory log history → KeepsRealTimeOrder log history }
     ensures linearizable { (log : List LogLine) (history : List Placed) → IsCoherent log → IsHistory log history → IsLinearizable log history }
+    ensures one { (log : List LogLine) → IsCoherent log → HasOneLegalHistory log }
     ensures by_client { (log : List LogLine) (history : List Placed) → IsCoherent log → IsHistory log history → KeepsClientOrder log history }
 {}
 

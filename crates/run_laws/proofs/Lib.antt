@@ -1,4 +1,5 @@
 pub mod Admitting
+pub mod Blocks
 pub mod Controlling
 pub mod Counters
 pub mod Emptied

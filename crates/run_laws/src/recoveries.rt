@@ -17,7 +17,7 @@ ghost use Rattle.far_model.specs.State.{client_at, opening};
 ghost use Rattle.far_invariants.specs.Always.{Always};
 ghost use Rattle.far_invariants.specs.Invariants.{look};
 ghost use Rattle.far_invariants.specs.Past.{past_of};
-ghost use Rattle.far_invariants.specs.Recoveries.{RecoversAfter, recovered_last};
+ghost use Rattle.far_invariants.specs.Recoveries.{BlocksAreRestarts, RecoversAfter, recovered_last};
 ghost use Rattle.far_invariants.specs.Restarts.{IsRestored};
 ghost use Rattle.far_invariants.specs.RoundFlights.{RoundInFlight};
 ghost use Rattle.far_invariants.specs.Stops.{AbsorbedIsKept, Stops};
@@ -30,9 +30,11 @@ pub fn absorbed_is_kept()
 {}
 
 /// At each restart the servers have, per key, the newest record of the kept list of the state in which the recovery began,
-/// no older than any answer before, and the new counter is at least every number of a write.
+/// no older than any answer before, and the new counter is at least every number of a write. So it is for each block of a
+/// restart in the log.
 pub fn restarts_restore()
     ensures restored { Always (λ plan events s. is_enabled plan s Restart ≡ true → IsRestored plan (recovered_last (past_of plan events)) s (happens plan s Restart)) }
+    ensures blocks { Always (λ plan events s. BlocksAreRestarts plan events s) }
     ensures maps { Always (λ plan events s. (before : List Event) → is_enabled plan s Restart ≡ true → RecoversAfter events before → IsRecoveredMap (run plan (opening plan) before) (all_listed s.servers)) }
     ensures no_older { Always (λ plan events s. is_enabled plan s Restart ≡ true → (key : List ℕ) (moment : ℕ) → exposed s.log key moment ≤ (look plan s key).num) }
 {}

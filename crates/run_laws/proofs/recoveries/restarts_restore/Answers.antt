@@ -1,3 +1,4 @@
+use Rattle.run_laws.proofs.Blocks.{blocks_are_restarts}
 use Rattle.far_invariants.specs.Past.{past_of}
 use Rattle.far_invariants.specs.Recoveries.{recovered_last}
 use Rattle.far_model.specs.Runs.{run}
@@ -17,3 +18,6 @@ returns-clause-maps c plan events valid r = λ before can after. runs_recover pl
 
 pub returns-clause-no_older : goal.returns-clause-no_older
 returns-clause-no_older c plan events valid r = λ can key moment. exposed_within plan (run plan (opening plan) events).log (log_sound plan (run plan (opening plan) events) (holds plan events valid r).keeps).by_plan key moment _ ((restart_restores plan (recovered_last (past_of plan events)) (run plan (opening plan) events) (holds plan events valid r).stops (stops_needed plan events valid r) can).shown key)
+
+pub returns-clause-blocks : goal.returns-clause-blocks
+returns-clause-blocks c plan events valid r = blocks_are_restarts plan events valid r
