@@ -107,15 +107,16 @@ if_some P Q (Some input) f h = f input h
 pub settled_early : (words : Words) (left : Left) (source_calm sink_calm keeper_calm : Type 0) (status answer : Status) → IsReplay words → (source_calm → IfSome left (λ input. SettlesReading input (Err status)))
     → (sink_calm → (answer ≡ status) ⊎ (answer ≡ Memory)) → IsSettled words left source_calm sink_calm keeper_calm answer
 settled_early words left a b k status answer r reading said = record {
-    other_words = λ other calm. absurd (other r);
-    refused = λ _ calm quiet. if_some _ _ left (λ input s refusal h. refused (s.refused refusal h) (said quiet)) (reading calm);
-    replayed = λ _ calm quiet _. if_some _ _ left (λ input s work h. none (s.workload work h) (said quiet)) (reading calm);
-  }
+  other_words = λ other calm. absurd (other r);
+  refused = λ _ calm quiet. if_some _ _ left (λ input s refusal h. refused (s.refused refusal h) (said quiet)) (reading calm);
+  replayed = λ _ calm quiet _. if_some _ _ left (λ input s work h. none (s.workload work h) (said quiet)) (reading calm);
+}
   where
     refused : {refusal : Status} → (status ≡ refusal) ⊎ (status ≡ Memory) → (answer ≡ status) ⊎ (answer ≡ Memory) → IsOrMemory refusal answer
     refused (inl e) (inl f) = inl (f ∙ e)
     refused (inr e) (inl f) = inr (f ∙ e)
     refused e (inr f) = inr f
+
     none : status ≡ Memory → (answer ≡ status) ⊎ (answer ≡ Memory) → IsOrMemory Done answer
     none e (inl f) = inr (f ∙ e)
     none e (inr f) = inr f
@@ -130,10 +131,10 @@ due_report words (Some input) (Some all) work text r read replay = (r, record { 
 pub settled_run : (words : Words) (left : Left) (source_calm sink_calm keeper_calm : Type 0) (work : WorkView) (answer : Status) → IsReplay words → IfSome left (λ input. IsRead input work) → (sink_calm → keeper_calm → IsOrMemory Done answer)
     → IsSettled words left source_calm sink_calm keeper_calm answer
 settled_run words left a b k work answer r read done = record {
-    other_words = λ other calm. absurd (other r);
-    refused = λ _ calm quiet. if_some _ _ left (λ input s refusal h. absurd (s.settles.refused refusal h)) read;
-    replayed = λ _ calm quiet steady. if_some _ _ left (λ input s work h. done quiet steady) read;
-  }
+  other_words = λ other calm. absurd (other r);
+  refused = λ _ calm quiet. if_some _ _ left (λ input s refusal h. absurd (s.settles.refused refusal h)) read;
+  replayed = λ _ calm quiet steady. if_some _ _ left (λ input s work h. done quiet steady) read;
+}
 
 -- an answer of a run
 abbrev pub IsOfRun : Status → Type 0

@@ -18,9 +18,9 @@ use Rattle.run_main.specs.declared.top.TheConstants.{INPUT_LIMIT}
 -- what parsing answered is what a text of that length is
 pub settles_ok : (input : List ℕ) (w : WorkView) → length input ≤ INPUT_LIMIT → ((fault : WorkFault) → HasFault input fault → IsFoundAs {A = WorkView} (Ok w) fault) → SettlesReading input (Ok w)
 settles_ok input w short first = record {
-    workload = λ work is. tt;
-    refused = refused;
-  }
+  workload = λ work is. tt;
+  refused = refused;
+}
   where
     refused : (refusal : Status) → IsRefusedAs input refusal → IsRefusalOf refusal (Ok w)
     refused (BadLine line) h = first (BadLineFault line) h.1
@@ -46,9 +46,9 @@ parsed_none NoMemory w h = refl
 pub settles_err : (input : List ℕ) (fault : WorkFault) → length input ≤ INPUT_LIMIT → ((w : WorkView) → IsReading input w → IsParsedAs (Err fault) w) → ((wanted : WorkFault) → HasFault input wanted → IsFoundAs {A = WorkView} (Err fault) wanted)
     → SettlesReading input (Err (status_of fault))
 settles_err input fault short only first = record {
-    workload = λ work is. parsed_none fault work (only work is.reads);
-    refused = refused;
-  }
+  workload = λ work is. parsed_none fault work (only work is.reads);
+  refused = refused;
+}
   where
     refused : (refusal : Status) → IsRefusedAs input refusal → IsRefusalOf refusal (Err (status_of fault))
     refused (BadLine line) h = found_status fault (BadLineFault line) (first (BadLineFault line) h.1)

@@ -1,6 +1,5 @@
 pub mod Inputs
 pub mod Lines
-pub mod Picked
 pub mod Replay
 pub mod Saying
 pub mod Status

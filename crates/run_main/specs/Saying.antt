@@ -2,6 +2,8 @@
 use Rattle.std.specs.Prelude.{◌≡◌, ◌⊎◌, ℕ, ◌<◌, ◌≤◌, List, ◌++◌, length, take, Option, None, Some, Result, Ok, Err, IfSome}
 use Rattle.workload.specs.WorkView.{WorkView}
 use Rattle.workload.specs.declared.fault.Limit.TheVariants.{Input}
+use Rattle.server_keeper.specs.declared.step.StepFault.{StepFault}
+use Rattle.server_keeper.specs.declared.step.StepFault.TheVariants.{Memory as OutOfMemory, KeeperFailed}
 use Rattle.run_main.specs.Inputs.{IsRefusedAs, IsWorkload}
 use Rattle.run_main.specs.declared.status.Status.{Status}
 use Rattle.run_main.specs.declared.top.TheConstants.{INPUT_LIMIT}
@@ -69,6 +71,11 @@ SettlesText input (Ok bytes) = length input ≤ INPUT_LIMIT
 SettlesText input (Err Memory) = Unit {0}
 SettlesText input (Err (TooLarge limit line)) = (INPUT_LIMIT < length input) × (limit ≡ Input) × (line ≡ 0)
 SettlesText input (Err _) = ⊥
+
+-- what a fault of a step is as the answer of a top call
+abbrev pub fault_status : StepFault → Status
+fault_status OutOfMemory = Memory
+fault_status KeeperFailed = KeeperFault
 
 -- why a run has no report
 abbrev pub IsRunFault : Type 0 → Status → Type 0

@@ -30,7 +30,6 @@ HasCause words left source_rose sink_rose keeper_rose (TooLarge limit line) =
 abbrev pub IsOrMemory : Status → Status → Type 0
 IsOrMemory due status = (status ≡ due) ⊎ (status ≡ Memory)
 
-
 -- ---- what is read and written
 
 -- all that the source had left was read

@@ -1,9 +1,3 @@
-use crate::status::Status;
-use crate::top::INPUT_LIMIT;
-use far_outside::{ReadStop, Source, read_all};
-use std::alloc::Global;
-use workload::{Limit, Workload, parse};
-
 ghost use Rattle.std.specs.Prelude.{◌≡◌, ◌≤◌, length, IfOk, IfErr, IfSome, OnOk};
 ghost use Rattle.far_outside.specs.Faults.{Rose};
 ghost use Rattle.far_outside.specs.Reading.{HasReadAll};
@@ -11,6 +5,12 @@ ghost use Rattle.workload.specs.Plain.{IsPlain};
 ghost use Rattle.run_main.specs.Inputs.{IsWorkload};
 ghost use Rattle.run_main.specs.Saying.{IsParsingFault, IsRead, IsReadingFault, SettlesReading, SettlesText};
 ghost use Rattle.run_main.specs.Top.{ReadFirst, ReadToEnd};
+
+use crate::status::Status;
+use crate::top::INPUT_LIMIT;
+use far_outside::{ReadStop, Source, read_all};
+use std::alloc::Global;
+use workload::{Limit, Workload, parse};
 
 /// The text that the source has left, to its end.
 fn read_text<S: Source>(alloc: Global, source: &mut S) -> Result<Vec<u8>, Status>
@@ -44,10 +44,7 @@ fn parsed(alloc: Global, text: &[u8]) -> Result<Workload, Status>
 }
 
 /// The workload that the source has left, which is read to its end.
-pub(crate) fn read_workload<S: Source>(
-    alloc: Global,
-    source: &mut S,
-) -> Result<Workload, Status>
+pub(crate) fn read_workload<S: Source>(alloc: Global, source: &mut S) -> Result<Workload, Status>
     ensures read { IfOk result (λ work. IfSome (S.left source.old) (λ input. IsRead input work)) }
     ensures plain { IfOk result (λ work. IsPlain work) }
     ensures end { OnOk result (ReadToEnd (S.left source.old) (S.left source.new)) }

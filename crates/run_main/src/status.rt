@@ -1,7 +1,7 @@
-use workload::{Limit, WorkFault};
-
 ghost use Rattle.std.specs.Prelude.{◌≡◌};
 ghost use Rattle.run_main.specs.Status.{exit_number};
+
+use workload::{Limit, WorkFault};
 
 /// How a top call ended. Lines are counted from 1.
 #[derive(Clone, Copy, Debug, PartialEq, Eq)]

@@ -30,7 +30,7 @@ fn is_replay(words: &[String]) -> bool
 }
 
 /// How a top call ended, and the keeper.
-pub struct Ended<K: Keeper> {
+pub struct Ended<K: Keeper + Drop> {
     pub status: Status,
     pub keeper: K,
 }
@@ -43,7 +43,7 @@ pub struct Ended<K: Keeper> {
 /// and `KeeperFault` where a read, a write or a call of the keeper failed. The first cause decides, in the order
 /// arguments, reading, grammar, run, writing; nothing is written before the run has ended. The keeper comes back with
 /// the servers' records at the end of the run; where no run was made it is as it was.
-pub fn top_calm<S: Source, D: Sink, K: Keeper>(
+pub fn top_calm<S: Source, D: Sink, K: Keeper + Drop>(
     alloc: Global,
     words: &[String],
     source: &mut S,

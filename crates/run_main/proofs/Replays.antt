@@ -1,0 +1,73 @@
+-- The report of a world that was run to its end by the picks of a workload is what replaying it gives.
+use Rattle.std.proofs.Common.{◌≡◌, ℕ, ◌≤◌, true, List, [], ◌++◌, Some, None, refl, sym, ap, ◌∙◌, subst}
+use Rattle.std.specs.Prelude.{IfOk, IfSome, Option, Result, Ok, Err}
+use Rattle.far_base.specs.PlanView.{PlanView}
+use Rattle.far_base.specs.declared.event.Event.{Event}
+use Rattle.far_base.specs.declared.record.Record.{Record}
+use Rattle.far_history.specs.Report.{IsReport}
+use Rattle.far_invariants.specs.Always.{Always}
+use Rattle.far_invariants.specs.Recoveries.{BlocksAreRestarts}
+use Rattle.far_model.specs.Answered.{AllAnswered}
+use Rattle.far_model.specs.History.{HasOneLegalHistory}
+use Rattle.far_model.specs.Runs.{IsPickedFrom, IsRun, is_finished, run}
+use Rattle.far_model.specs.State.{State, opening}
+use Rattle.far_runner.specs.Picked.{pick_of}
+use Rattle.far_runner.specs.Pumped.{HasPumped}
+use Rattle.far_world.specs.Reached.{IsReached, IsRunOf, Ran}
+use Rattle.far_world.specs.Scene.{told_by}
+use Rattle.workload.specs.WorkView.{WorkView}
+use Rattle.run_main.specs.Replay.{IsReplayOf, Tells, log_of}
+
+-- what follows of what was answered
+pub ok_map : {T E : Type 0} → (P Q : T → Type 0) (r : Result T E) → ((x : T) → P x → Q x) → IfOk r P → IfOk r Q
+ok_map P Q (Ok x) f h = f x h
+ok_map P Q (Err e) f h = tt
+
+over : (work : WorkView) (plan : PlanView) (events : List Event) (s : State) (text : List ℕ) (all : List (List Record)) → plan ≡ work.plan
+    → IsRun plan (opening plan) events → s ≡ run plan (opening plan) events → IsPickedFrom plan (pick_of work) 0 (opening plan) events → AllAnswered plan s → HasOneLegalHistory s.log → BlocksAreRestarts plan events s
+    → IsReport (log_of s) text → all ≡ s.servers → IsReplayOf work text all
+over work plan events s text all same =
+    subst (λ (p : PlanView). IsRun p (opening p) events → s ≡ run p (opening p) events → IsPickedFrom p (pick_of work) 0 (opening p) events → AllAnswered p s → HasOneLegalHistory s.log → BlocksAreRestarts p events s → IsReport (log_of s) text → all ≡ s.servers → IsReplayOf work text all)
+    (sym same) (λ runs is picked answered history restarts report servers. record {
+      events = events;
+      runs = record { enabled = runs; picked = picked };
+      answered = subst (λ (z : State). AllAnswered work.plan z) is answered;
+      history = subst (λ (z : State). HasOneLegalHistory z.log) is history;
+      restarts = subst (λ (z : State). BlocksAreRestarts work.plan events z) is restarts;
+      report = subst (λ (z : State). IsReport (log_of z) text) is report;
+      servers = servers ∙ ap (λ (z : State). z.servers) is;
+    })
+
+module _ (work : WorkView) (start w : Ran) (count : ℕ) (text : List ℕ) (plan_is : start.plan ≡ work.plan) (none : start.events ≡ []) (opens : Tells start.keeper.records → start.state ≡ opening work.plan) (p : HasPumped work start w count) (h : IsReached w) where
+  here : w.plan ≡ work.plan
+  here = p.gone.plan ∙ plan_is
+
+  made_is : w.events ≡ p.made
+  made_is = p.gone.events ∙ ap (λ (es : List Event). es ++ p.made) none
+
+  replays : Tells start.keeper.records → (all : List (List Record)) → w.keeper.records ≡ Some all → AllAnswered w.plan w.state → Always (λ plan events s. HasOneLegalHistory s.log) → Always (λ plan events s. BlocksAreRestarts plan events s) → IsReport (log_of w.state) text → IsReplayOf work text all
+  replays tells all told answered histories restarts report =
+      over work w.plan w.events w.state text all here d.enabled d.is picked answered
+      (subst (λ (z : State). HasOneLegalHistory z.log) (sym d.is) (histories w.plan w.events h.valid d.enabled))
+      (subst (λ (z : State). BlocksAreRestarts w.plan w.events z) (sym d.is) (restarts w.plan w.events h.valid d.enabled))
+      report (sym (h.records ∙ ap (told_by w.plan.config.servers) told))
+    where
+      d : IsRunOf w.plan w.events w.state
+      d = h.told (p.gone.tells ∙ tells)
+
+      first : IsPickedFrom start.plan (pick_of work) 0 start.state w.events
+      first = subst (λ (es : List Event). IsPickedFrom start.plan (pick_of work) 0 start.state es) (sym made_is) (p.picked tells)
+
+      second : IsPickedFrom start.plan (pick_of work) 0 (opening work.plan) w.events
+      second = subst (λ (z : State). IsPickedFrom start.plan (pick_of work) 0 z w.events) (opens tells) first
+
+      third : IsPickedFrom work.plan (pick_of work) 0 (opening work.plan) w.events
+      third = subst (λ (q : PlanView). IsPickedFrom q (pick_of work) 0 (opening work.plan) w.events) plan_is second
+
+      picked : IsPickedFrom w.plan (pick_of work) 0 (opening w.plan) w.events
+      picked = subst (λ (q : PlanView). IsPickedFrom q (pick_of work) 0 (opening q) w.events) (sym here) third
+
+  pub replay_is : Tells start.keeper.records → (records : Option (List (List Record))) → records ≡ w.keeper.records → AllAnswered w.plan w.state → Always (λ plan events s. HasOneLegalHistory s.log) → Always (λ plan events s. BlocksAreRestarts plan events s) → IsReport (log_of w.state) text
+      → IfSome records (λ all. IsReplayOf work text all)
+  replay_is tells None same answered histories restarts report = tt
+  replay_is tells (Some all) same answered histories restarts report = replays tells all (sym same) answered histories restarts report
