@@ -1,10 +1,11 @@
 -- A worked run: a plan, picks, and what the run shows.
 use Rattle.std.specs.Prelude.{ℕ, List}
 use Rattle.far_base.specs.PlanView.{PlanView}
+use Rattle.far_base.specs.declared.log.LogLine.{LogLine}
 use Rattle.far_base.specs.declared.record.Record.{Record}
 use Rattle.far_model.specs.Work.{work_bound}
 use Rattle.model_examples.specs.Course.{Course, run_course}
-use Rattle.model_examples.specs.Table.{RunTable, run_last, run_table}
+use Rattle.model_examples.specs.Table.{RunTable, picked_state, run_last, run_table}
 use Rattle.model_examples.specs.Traffic.{Traffic, run_traffic}
 
 pub record Example : Type 0 where
@@ -14,6 +15,10 @@ pub record Example : Type 0 where
   pub course : Course
 
 -- ---- what the definitions give
+
+-- the log of the run
+abbrev pub log_of : Example → List LogLine
+log_of run = (picked_state run.plan run.picks (work_bound run.plan)).log
 
 abbrev pub table_of : Example → RunTable
 table_of run = run_table run.plan run.picks (work_bound run.plan)

@@ -1,6 +1,6 @@
 -- Worked runs in which the switch stops at a packet of a named kind.
 use Rattle.std.specs.Prelude.{[], ◌∷◌, None}
-use Rattle.far_base.specs.declared.log.LogEntry.TheVariants.{Admitted, RecItem, Recovered, Snapped, Stopped}
+use Rattle.far_base.specs.declared.log.LogEntry.TheVariants.{Admitted, Evicted, RecItem, Recovered, Snapped, Stopped}
 use Rattle.far_base.specs.declared.plan.Order.TheVariants.{
   Admit as admit,
   Evict as evict,
@@ -11,8 +11,12 @@ use Rattle.far_base.specs.declared.plan.Order.TheVariants.{
 use Rattle.far_base.specs.declared.plan.PassKind.TheVariants.{
   Admit as AdmitPass,
   GetRep as GetRepPass,
+  GetReq as GetReqPass,
   Peek as PeekPass,
+  Remove as RemovePass,
+  SnapRead as SnapReadPass,
   SnapStart as SnapStartPass,
+  WriteRep as WriteRepPass,
   WriteReq as WriteReqPass,
 }
 use Rattle.model_examples.specs.Example.{Example}
@@ -308,5 +312,163 @@ stop_at_dropped = record {
     finished = 27 ∷ [];
     miscounted = [];
     servers = (item key_b 2 body_y ∷ []) ∷ [];
+  };
+}
+
+-- two stops are due by one write: the second waits until the switch runs again
+abbrev pub stop_twice_at_write : Example
+stop_twice_at_write = record {
+  plan = record {
+    config = sizes 1 1 1 0;
+    ops = put 0 key_a body_x ∷ [];
+    orders =
+        stop_at WriteReqPass 1
+        ∷ stop_at WriteReqPass 1
+        ∷ [];
+  };
+  picks = [];
+  table = record {
+    steps = 19;
+    history = by_server 1 1 body_x 1 19 ∷ [];
+    control =
+        at 3 Stopped
+        ∷ at 10 (Recovered 1 1)
+        ∷ at 10 (RecItem (item key_a 1 body_x))
+        ∷ at 11 Stopped
+        ∷ at 17 (Recovered 1 1)
+        ∷ at 17 (RecItem (item key_a 1 body_x))
+        ∷ [];
+    map = item key_a 1 body_x ∷ [];
+  };
+  course = record {
+    bound = 480;
+    left = 48 ∷ 47 ∷ 27 ∷ 26 ∷ 25 ∷ 22 ∷ 18 ∷ 17 ∷ 16 ∷ 15 ∷ 14 ∷ 13 ∷ 10 ∷ 6 ∷ 5 ∷ 4 ∷ 3 ∷ 2 ∷ 1 ∷ 0 ∷ [];
+    enabled = 1 ∷ 1 ∷ 2 ∷ 1 ∷ 1 ∷ 1 ∷ 1 ∷ 1 ∷ 1 ∷ 1 ∷ 2 ∷ 1 ∷ 1 ∷ 1 ∷ 1 ∷ 1 ∷ 1 ∷ 1 ∷ 1 ∷ 0 ∷ [];
+    finished = 19 ∷ [];
+    miscounted = [];
+    servers = (item key_a 1 body_x ∷ []) ∷ [];
+  };
+}
+
+-- the switch stops at the first packet of each kind that belongs to an operation
+abbrev pub stop_at_requests : Example
+stop_at_requests = record {
+  plan = record {
+    config = sizes 2 2 1 0;
+    ops =
+        get 0 key_a
+        ∷ put 1 key_b body_x
+        ∷ get 0 key_b
+        ∷ [];
+    orders =
+        stop_at GetReqPass 1
+        ∷ stop_at WriteReqPass 1
+        ∷ stop_at GetRepPass 1
+        ∷ stop_at WriteRepPass 1
+        ∷ [];
+  };
+  picks = [];
+  table = record {
+    steps = 59;
+    history =
+        by_server 1 0 None 1 31
+        ∷ by_server 2 1 body_x 2 45
+        ∷ by_server 3 1 body_x 32 59
+        ∷ [];
+    control =
+        at 4 Stopped
+        ∷ at 15 (Recovered 0 0)
+        ∷ at 17 Stopped
+        ∷ at 28 (Recovered 1 1)
+        ∷ at 28 (RecItem (item key_b 1 body_x))
+        ∷ at 30 Stopped
+        ∷ at 42 (Recovered 1 1)
+        ∷ at 42 (RecItem (item key_b 1 body_x))
+        ∷ at 44 Stopped
+        ∷ at 55 (Recovered 1 1)
+        ∷ at 55 (RecItem (item key_b 1 body_x))
+        ∷ [];
+    map = item key_b 1 body_x ∷ [];
+  };
+  course = record {
+    bound = 1440;
+    left = 160 ∷ 159 ∷ 158 ∷ 138 ∷ 137 ∷ 136 ∷ 133 ∷ 126 ∷ 122 ∷ 121 ∷ 120 ∷ 119 ∷ 118 ∷ 117 ∷ 116 ∷ 115 ∷ 95 ∷ 94
+        ∷ 93 ∷ 90 ∷ 83 ∷ 79 ∷ 78 ∷ 77 ∷ 76 ∷ 75 ∷ 74 ∷ 73 ∷ 72 ∷ 71 ∷ 70 ∷ 69 ∷ 68 ∷ 65 ∷ 58 ∷ 54 ∷ 53 ∷ 52 ∷ 51 ∷ 50
+        ∷ 49 ∷ 48 ∷ 47 ∷ 46 ∷ 45 ∷ 44 ∷ 41 ∷ 34 ∷ 30 ∷ 29 ∷ 28 ∷ 27 ∷ 26 ∷ 25 ∷ 24 ∷ 23 ∷ 3 ∷ 2 ∷ 1 ∷ 0 ∷ [];
+    enabled = 2 ∷ 2 ∷ 2 ∷ 3 ∷ 1 ∷ 1 ∷ 2 ∷ 2 ∷ 2 ∷ 1 ∷ 2 ∷ 2 ∷ 2 ∷ 1 ∷ 1 ∷ 2 ∷ 3 ∷ 1 ∷ 1 ∷ 2 ∷ 2 ∷ 2 ∷ 1 ∷ 2 ∷ 2 ∷ 2
+        ∷ 1 ∷ 1 ∷ 2 ∷ 3 ∷ 1 ∷ 2 ∷ 1 ∷ 2 ∷ 2 ∷ 2 ∷ 1 ∷ 2 ∷ 2 ∷ 2 ∷ 1 ∷ 1 ∷ 2 ∷ 3 ∷ 1 ∷ 1 ∷ 2 ∷ 2 ∷ 2 ∷ 1 ∷ 2 ∷ 2 ∷ 2
+        ∷ 1 ∷ 1 ∷ 1 ∷ 1 ∷ 1 ∷ 1 ∷ 0 ∷ [];
+    finished = 59 ∷ [];
+    miscounted = [];
+    servers = (item key_b 1 body_x ∷ []) ∷ [] ∷ [];
+  };
+}
+
+-- the switch stops at a packet of each kind that the controller sends
+abbrev pub stop_at_control : Example
+stop_at_control = record {
+  plan = record {
+    config = sizes 1 1 2 0;
+    ops =
+        put 0 key_a body_x
+        ∷ put 0 key_a body_y
+        ∷ [];
+    orders =
+        admit 0 key_a
+        ∷ stop_at AdmitPass 1
+        ∷ admit 900 key_a
+        ∷ evict 900 key_a
+        ∷ stop_at PeekPass 1
+        ∷ admit 900 key_a
+        ∷ evict 900 key_a
+        ∷ stop_at RemovePass 2
+        ∷ snap 0
+        ∷ stop_at SnapStartPass 1
+        ∷ snap 0
+        ∷ stop_at SnapReadPass 1
+        ∷ [];
+  };
+  picks = [];
+  table = record {
+    steps = 73;
+    history =
+        by_server 1 1 body_x 2 6
+        ∷ by_server 2 2 body_y 7 11
+        ∷ [];
+    control =
+        at 14 Stopped
+        ∷ at 15 (Admitted 0 key_a 1)
+        ∷ at 21 (Recovered 2 1)
+        ∷ at 21 (RecItem (item key_a 2 body_y))
+        ∷ at 25 (Admitted 0 key_a 2)
+        ∷ at 28 Stopped
+        ∷ at 35 (Recovered 2 1)
+        ∷ at 35 (RecItem (item key_a 2 body_y))
+        ∷ at 40 (Admitted 0 key_a 3)
+        ∷ at 45 Stopped
+        ∷ at 46 (Evicted 0 key_a 1)
+        ∷ at 52 (Recovered 2 1)
+        ∷ at 52 (RecItem (item key_a 2 body_y))
+        ∷ at 55 Stopped
+        ∷ at 62 (Recovered 2 1)
+        ∷ at 62 (RecItem (item key_a 2 body_y))
+        ∷ at 65 Stopped
+        ∷ at 71 (Recovered 2 1)
+        ∷ at 71 (RecItem (item key_a 2 body_y))
+        ∷ [];
+    map = item key_a 2 body_y ∷ [];
+  };
+  course = record {
+    bound = 3072;
+    left = 236 ∷ 220 ∷ 219 ∷ 199 ∷ 198 ∷ 197 ∷ 196 ∷ 195 ∷ 175 ∷ 174 ∷ 173 ∷ 172 ∷ 171 ∷ 170 ∷ 169 ∷ 168 ∷ 163 ∷ 156
+        ∷ 155 ∷ 154 ∷ 153 ∷ 152 ∷ 136 ∷ 135 ∷ 134 ∷ 133 ∷ 132 ∷ 131 ∷ 130 ∷ 127 ∷ 114 ∷ 107 ∷ 106 ∷ 105 ∷ 104 ∷ 103
+        ∷ 101 ∷ 85 ∷ 84 ∷ 83 ∷ 82 ∷ 81 ∷ 80 ∷ 77 ∷ 76 ∷ 75 ∷ 66 ∷ 61 ∷ 54 ∷ 53 ∷ 52 ∷ 51 ∷ 50 ∷ 49 ∷ 48 ∷ 45 ∷ 44 ∷ 38
+        ∷ 31 ∷ 30 ∷ 29 ∷ 28 ∷ 27 ∷ 26 ∷ 25 ∷ 24 ∷ 18 ∷ 11 ∷ 10 ∷ 9 ∷ 8 ∷ 7 ∷ 6 ∷ 0 ∷ [];
+    enabled = 2 ∷ 2 ∷ 2 ∷ 2 ∷ 2 ∷ 2 ∷ 2 ∷ 2 ∷ 2 ∷ 2 ∷ 2 ∷ 1 ∷ 1 ∷ 2 ∷ 1 ∷ 1 ∷ 1 ∷ 1 ∷ 1 ∷ 1 ∷ 1 ∷ 1 ∷ 1 ∷ 1 ∷ 1 ∷ 1
+        ∷ 1 ∷ 2 ∷ 1 ∷ 1 ∷ 1 ∷ 1 ∷ 1 ∷ 1 ∷ 1 ∷ 1 ∷ 1 ∷ 1 ∷ 1 ∷ 1 ∷ 1 ∷ 1 ∷ 1 ∷ 1 ∷ 2 ∷ 1 ∷ 1 ∷ 1 ∷ 1 ∷ 1 ∷ 1 ∷ 1 ∷ 1
+        ∷ 1 ∷ 2 ∷ 1 ∷ 1 ∷ 1 ∷ 1 ∷ 1 ∷ 1 ∷ 1 ∷ 3 ∷ 3 ∷ 3 ∷ 1 ∷ 1 ∷ 1 ∷ 1 ∷ 1 ∷ 1 ∷ 2 ∷ 1 ∷ 0 ∷ [];
+    finished = 73 ∷ [];
+    miscounted = [];
+    servers = (item key_a 2 body_y ∷ []) ∷ [];
   };
 }

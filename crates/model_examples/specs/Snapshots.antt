@@ -22,6 +22,7 @@ use Rattle.model_examples.specs.Words.{
   body_t,
   body_u,
   body_v,
+  body_x,
   sizes,
   get,
   put,
@@ -196,6 +197,91 @@ one_slot_changed = record {
     enabled = 2 ∷ 3 ∷ 2 ∷ 3 ∷ 3 ∷ 3 ∷ 3 ∷ 2 ∷ 1 ∷ 1 ∷ 1 ∷ 1 ∷ 1 ∷ 1 ∷ 2 ∷ 2 ∷ 2 ∷ 3 ∷ 3 ∷ 3 ∷ 2 ∷ 2 ∷ 2 ∷ 1 ∷ 1 ∷ 1
         ∷ 1 ∷ 1 ∷ 2 ∷ 2 ∷ 2 ∷ 1 ∷ 1 ∷ 0 ∷ [];
     finished = 33 ∷ [];
+    miscounted = [];
+    servers = [] ∷ [];
+  };
+}
+
+-- a slot is emptied between two snapshots: its part says that it holds nothing
+abbrev pub emptied_between_snapshots : Example
+emptied_between_snapshots = record {
+  plan = record {
+    config = sizes 1 1 1 0;
+    ops = put 0 key_a body_x ∷ [];
+    orders =
+        admit 0 key_a
+        ∷ snap 8
+        ∷ evict 13 key_a
+        ∷ snap 21
+        ∷ [];
+  };
+  picks = 1 ∷ 1 ∷ 1 ∷ [];
+  table = record {
+    steps = 26;
+    history = by_switch 1 1 body_x 5 7 ∷ [];
+    control =
+        at 4 (Admitted 0 key_a 1)
+        ∷ at 12 (Snapped 1 1 1 0)
+        ∷ at 12 (SnapItem 0 (item key_a 1 body_x))
+        ∷ at 20 (Evicted 0 key_a 1)
+        ∷ at 25 (Snapped 2 1 0 0)
+        ∷ [];
+    map = item key_a 1 body_x ∷ [];
+  };
+  course = record {
+    bound = 672;
+    left = 70 ∷ 54 ∷ 53 ∷ 52 ∷ 51 ∷ 50 ∷ 28 ∷ 27 ∷ 26 ∷ 25 ∷ 24 ∷ 23 ∷ 22 ∷ 21 ∷ 20 ∷ 19 ∷ 18 ∷ 17 ∷ 16 ∷ 15 ∷ 6 ∷ 5
+        ∷ 4 ∷ 3 ∷ 2 ∷ 1 ∷ 0 ∷ [];
+    enabled = 2 ∷ 2 ∷ 2 ∷ 2 ∷ 1 ∷ 1 ∷ 1 ∷ 1 ∷ 1 ∷ 1 ∷ 1 ∷ 1 ∷ 1 ∷ 1 ∷ 1 ∷ 1 ∷ 1 ∷ 1 ∷ 1 ∷ 1 ∷ 1 ∷ 1 ∷ 1 ∷ 1 ∷ 1 ∷ 1
+        ∷ 0 ∷ [];
+    finished = 26 ∷ [];
+    miscounted = [];
+    servers = (item key_a 1 body_x ∷ []) ∷ [];
+  };
+}
+
+-- between two snapshots a slot goes from the absence of a key to that of another: its part is sent whole
+abbrev pub absence_of_another_key : Example
+absence_of_another_key = record {
+  plan = record {
+    config = sizes 1 1 1 0;
+    ops =
+        get 0 key_a
+        ∷ get 0 key_b
+        ∷ [];
+    orders =
+        admit 0 key_a
+        ∷ snap 9
+        ∷ evict 14 key_a
+        ∷ admit 22 key_b
+        ∷ snap 900
+        ∷ [];
+  };
+  picks = 1 ∷ 1 ∷ 1 ∷ 0 ∷ 0 ∷ 0 ∷ 0 ∷ 0 ∷ 1 ∷ 1 ∷ 1 ∷ 1 ∷ 1 ∷ 1 ∷ 1 ∷ 1 ∷ 1 ∷ 1 ∷ 1 ∷ 1 ∷ 1 ∷ 1 ∷ [];
+  table = record {
+    steps = 37;
+    history =
+        by_server 1 0 None 5 9
+        ∷ by_server 2 0 None 27 31
+        ∷ [];
+    control =
+        at 4 (Admitted 0 key_a 1)
+        ∷ at 14 (Snapped 1 0 1 0)
+        ∷ at 14 (SnapItem 0 (item key_a 0 None))
+        ∷ at 22 (Evicted 0 key_a 1)
+        ∷ at 26 (Admitted 0 key_b 2)
+        ∷ at 36 (Snapped 2 0 1 0)
+        ∷ at 36 (SnapItem 0 (item key_b 0 None))
+        ∷ [];
+    map = [];
+  };
+  course = record {
+    bound = 864;
+    left = 113 ∷ 97 ∷ 96 ∷ 95 ∷ 94 ∷ 93 ∷ 73 ∷ 72 ∷ 71 ∷ 70 ∷ 69 ∷ 68 ∷ 67 ∷ 66 ∷ 65 ∷ 64 ∷ 63 ∷ 62 ∷ 61 ∷ 60 ∷ 59
+        ∷ 58 ∷ 49 ∷ 33 ∷ 32 ∷ 31 ∷ 30 ∷ 29 ∷ 9 ∷ 8 ∷ 7 ∷ 6 ∷ 5 ∷ 4 ∷ 3 ∷ 2 ∷ 1 ∷ 0 ∷ [];
+    enabled = 2 ∷ 2 ∷ 2 ∷ 2 ∷ 1 ∷ 1 ∷ 1 ∷ 1 ∷ 1 ∷ 2 ∷ 2 ∷ 2 ∷ 2 ∷ 2 ∷ 3 ∷ 3 ∷ 2 ∷ 2 ∷ 2 ∷ 2 ∷ 2 ∷ 2 ∷ 2 ∷ 2 ∷ 2 ∷ 2
+        ∷ 1 ∷ 1 ∷ 1 ∷ 1 ∷ 1 ∷ 1 ∷ 1 ∷ 1 ∷ 1 ∷ 1 ∷ 1 ∷ 0 ∷ [];
+    finished = 37 ∷ [];
     miscounted = [];
     servers = [] ∷ [];
   };

@@ -119,6 +119,36 @@ stop_in_snapshot_traffic = record {
       ∷ [];
 }
 
+-- after a stop the next snapshot is not by difference
+abbrev pub stop_between_snapshots_traffic : Traffic
+stop_between_snapshots_traffic = record {
+  events = OrderOf 0 ∷ Deliver 0 ∷ Deliver 0 ∷ Deliver 0 ∷ Deliver 0 ∷ Deliver 0 ∷ OrderOf 1 ∷ Recover ∷ Deliver 0
+      ∷ Deliver 0 ∷ Deliver 0 ∷ Deliver 0 ∷ Restart ∷ OrderOf 2 ∷ Deliver 0 ∷ Deliver 0 ∷ Deliver 0 ∷ Deliver 0
+      ∷ Deliver 0 ∷ [];
+  taken =
+      message Controller Switch (SnapStart 1 1)
+      ∷ message Switch Controller (SnapBegun 1 0)
+      ∷ message Controller Switch (SnapRead 1 1 0)
+      ∷ message Switch Controller (SnapPart 1 0 None)
+      ∷ message Controller (Client 0) (Release 0)
+      ∷ message Controller (Client 0) (Ask 1)
+      ∷ message (Client 0) Controller (Told 1 0 0 None)
+      ∷ message Controller (Server 0) (TopAsk 1)
+      ∷ message (Server 0) Controller (TopIs 1 0 0)
+      ∷ message Controller Switch (SnapStart 2 2)
+      ∷ message Switch Controller (SnapBegun 2 0)
+      ∷ message Controller Switch (SnapRead 2 2 0)
+      ∷ message Switch Controller (SnapPart 2 0 None)
+      ∷ message Controller (Client 0) (Release 0)
+      ∷ [];
+  log =
+      at 5 (Snapped 1 0 0 0)
+      ∷ at 7 Stopped
+      ∷ at 13 (Recovered 0 0)
+      ∷ at 18 (Snapped 2 0 0 0)
+      ∷ [];
+}
+
 -- three clients tell several records each, in parts that overtake each other
 abbrev pub records_told_in_parts_traffic : Traffic
 records_told_in_parts_traffic = record {

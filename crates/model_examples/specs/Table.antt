@@ -1,97 +1,18 @@
--- What a run shows, computed step by step from the definitions: slow, and plain.
-use Rattle.std.specs.Prelude.{
-  ℕ,
-  zero,
-  suc,
-  max,
-  Bool,
-  true,
-  false,
-  ◌&&◌,
-  ◌||◌,
-  nat_eq,
-  nat_le,
-  nat_lt,
-  if◌then◌else◌,
-  List,
-  [],
-  ◌∷◌,
-  length,
-  Option,
-  None,
-  Some,
-}
+-- What a run shows, computed step by step from the definitions: slow, and plain. The history is that of the log.
+use Rattle.std.specs.Prelude.{ℕ, Bool, true, false, if◌then◌else◌, List, [], ◌∷◌, Option, None, Some}
 use Rattle.far_base.specs.PlanView.{PlanView}
 use Rattle.far_base.specs.declared.log.LogLine.{LogLine}
 use Rattle.far_base.specs.declared.log.LogEntry.{LogEntry}
 use Rattle.far_base.specs.declared.log.LogEntry.TheVariants.{Sent, Numbered, Emitted, Answered}
 use Rattle.far_base.specs.declared.log.Placed.{Placed}
-use Rattle.far_base.specs.declared.plan.OpLine.{OpLine}
 use Rattle.far_base.specs.declared.record.Record.{Record}
 use Rattle.far_base.specs.declared.record.Versioned.{Versioned}
-use Rattle.far_model.specs.History.{read_rank, key_of, last_write, written_by}
+use Rattle.far_model.specs.History.{key_of, last_write, written_by}
 use Rattle.far_model.specs.KeyedRecords.{put_record, by_key}
-use Rattle.far_model.specs.Log.{At, Answer, is_read, exposed, sending, numbering, emission, answering}
+use Rattle.far_model.specs.Log.{At, Answer, sending, emission, answering}
 use Rattle.far_model.specs.Runs.{run, picked_events}
 use Rattle.far_model.specs.State.{State, opening}
-
--- ---- the history
-
-abbrev pub first_from : List LogLine → List ℕ → ℕ → ℕ → ℕ → Option ℕ
-first_from log key num moment zero = None
-first_from log key num moment (suc more) =
-    if nat_le num (exposed log key moment) then Some moment else first_from log key num (suc moment) more
-
--- the first moment up to the last step at which the number is exposed
-abbrev pub moment_of : ℕ → List LogLine → List ℕ → ℕ → Option ℕ
-moment_of steps log key num = first_from log key num 0 (suc steps)
-
-abbrev pub placed_at : ℕ → ℕ → Bool → ℕ → Option ℕ → List Placed
-placed_at op num read sent None = []
-placed_at op num read sent (Some moment) =
-    record { moment = if read then max moment sent else moment; num = num; read = read; op = op } ∷ []
-
-abbrev pub place_read : ℕ → List LogLine → ℕ → At OpLine → Option (At Answer) → Option (At ℕ) → List Placed
-place_read steps log op sent None answered = []
-place_read steps log op sent (Some e) None = []
-place_read steps log op sent (Some e) (Some a) =
-    placed_at op e.what.num true sent.moment (moment_of steps log sent.what.key e.what.num)
-
-abbrev pub place_write : ℕ → List LogLine → ℕ → At OpLine → Option (At ℕ) → List Placed
-place_write steps log op sent None = []
-place_write steps log op sent (Some n) =
-    placed_at op n.what false sent.moment (moment_of steps log sent.what.key n.what)
-
-abbrev pub place_sent : ℕ → List LogLine → ℕ → Option (At OpLine) → List Placed
-place_sent steps log op None = []
-place_sent steps log op (Some s) =
-    if is_read s.what.op
-    then place_read steps log op s (emission log op) (answering log op)
-    else place_write steps log op s (numbering log op)
-
-abbrev pub is_ranked_before : Placed → Placed → Bool
-is_ranked_before x y =
-    nat_lt (read_rank x.read) (read_rank y.read) || (nat_eq (read_rank x.read) (read_rank y.read) && nat_lt x.op y.op)
-
-abbrev pub is_numbered_before : Placed → Placed → Bool
-is_numbered_before x y = nat_lt x.num y.num || (nat_eq x.num y.num && is_ranked_before x y)
-
-abbrev pub is_before : Placed → Placed → Bool
-is_before x y = nat_lt x.moment y.moment || (nat_eq x.moment y.moment && is_numbered_before x y)
-
-abbrev pub in_order : Placed → List Placed → List Placed
-in_order p [] = p ∷ []
-in_order p (x ∷ xs) = if is_before p x then p ∷ (x ∷ xs) else x ∷ in_order p xs
-
-abbrev pub all_in_order : List Placed → List Placed → List Placed
-all_in_order [] ys = ys
-all_in_order (x ∷ xs) ys = in_order x (all_in_order xs ys)
-
--- the places of operations from `op` on, in their order
-abbrev pub history_from : ℕ → List LogLine → ℕ → ℕ → List Placed
-history_from steps log op zero = []
-history_from steps log op (suc more) =
-    all_in_order (place_sent steps log op (sending log op)) (history_from steps log (suc op) more)
+use Rattle.model_laws.specs.Placing.{history_of}
 
 -- ---- what is shown of an operation
 
@@ -165,12 +86,8 @@ table_of_history s h = record {
   map = by_key (after_writes s.log [] h);
 }
 
--- the history of the operations of the plan
-abbrev pub history_of : PlanView → State → List Placed
-history_of plan s = history_from s.steps s.log 1 (length plan.ops)
-
-abbrev pub table_of_state : PlanView → State → RunTable
-table_of_state plan s = table_of_history s (history_of plan s)
+abbrev pub table_of_state : State → RunTable
+table_of_state s = table_of_history s (history_of s.log)
 
 -- ---- the last write of each key
 
@@ -183,8 +100,8 @@ last_records log history [] = []
 last_records log history (r ∷ rs) = last_record r.key (last_write log r.key None history) ∷ last_records log history rs
 
 -- of each record the last write of its key
-abbrev pub last_of_state : PlanView → List Record → State → List Record
-last_of_state plan records s = last_records s.log (history_of plan s) records
+abbrev pub last_of_state : List Record → State → List Record
+last_of_state records s = last_records s.log (history_of s.log) records
 
 -- ---- runs
 
@@ -193,7 +110,7 @@ abbrev pub picked_state : PlanView → List ℕ → ℕ → State
 picked_state plan picks most = run plan (opening plan) (picked_events plan most picks 0 (opening plan))
 
 abbrev pub run_table : PlanView → List ℕ → ℕ → RunTable
-run_table plan picks most = table_of_state plan (picked_state plan picks most)
+run_table plan picks most = table_of_state (picked_state plan picks most)
 
 abbrev pub run_last : PlanView → List ℕ → ℕ → List Record → List Record
-run_last plan picks most records = last_of_state plan records (picked_state plan picks most)
+run_last plan picks most records = last_of_state records (picked_state plan picks most)

@@ -17,8 +17,8 @@ pub use evictions::{
     write_between,
 };
 pub use named_stops::{
-    stop_after_restart, stop_at_dropped, stop_at_no_peek, stop_at_second_start,
-    stop_at_third_write, stop_at_write,
+    stop_after_restart, stop_at_control, stop_at_dropped, stop_at_no_peek, stop_at_requests,
+    stop_at_second_start, stop_at_third_write, stop_at_write, stop_twice_at_write,
 };
 pub use plain::{never_written, nothing_to_do, put_and_get, writes_overtake};
 pub use slots::{
@@ -26,7 +26,8 @@ pub use slots::{
     replies_meet_slots, reply_raises_latest, reply_raises_outdated,
 };
 pub use snapshots::{
-    empty_slot_again, four_snapshots, one_slot_changed, overwritten_before_read, slot_goes_on,
+    absence_of_another_key, emptied_between_snapshots, empty_slot_again, four_snapshots,
+    one_slot_changed, overwritten_before_read, slot_goes_on,
 };
 pub use stops::{
     late_removal_and_store, late_store_in_round, orders_before_their_time, records_told_in_parts,

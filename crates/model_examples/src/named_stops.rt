@@ -44,3 +44,24 @@ pub fn stop_at_dropped()
     ensures course { course_of NamedStops.stop_at_dropped ≡ NamedStops.stop_at_dropped.course }
     ensures last { last_of NamedStops.stop_at_dropped ≡ NamedStops.stop_at_dropped.table.map }
 {}
+
+/// Two stops are due by one write: the second waits until the switch runs again.
+pub fn stop_twice_at_write()
+    ensures table { table_of NamedStops.stop_twice_at_write ≡ NamedStops.stop_twice_at_write.table }
+    ensures course { course_of NamedStops.stop_twice_at_write ≡ NamedStops.stop_twice_at_write.course }
+    ensures last { last_of NamedStops.stop_twice_at_write ≡ NamedStops.stop_twice_at_write.table.map }
+{}
+
+/// The switch stops at the first packet of each kind that belongs to an operation.
+pub fn stop_at_requests()
+    ensures table { table_of NamedStops.stop_at_requests ≡ NamedStops.stop_at_requests.table }
+    ensures course { course_of NamedStops.stop_at_requests ≡ NamedStops.stop_at_requests.course }
+    ensures last { last_of NamedStops.stop_at_requests ≡ NamedStops.stop_at_requests.table.map }
+{}
+
+/// The switch stops at a packet of each kind that the controller sends.
+pub fn stop_at_control()
+    ensures table { table_of NamedStops.stop_at_control ≡ NamedStops.stop_at_control.table }
+    ensures course { course_of NamedStops.stop_at_control ≡ NamedStops.stop_at_control.course }
+    ensures last { last_of NamedStops.stop_at_control ≡ NamedStops.stop_at_control.table.map }
+{}

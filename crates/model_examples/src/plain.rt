@@ -1,9 +1,11 @@
 //! Worked runs without slots.
 
 ghost use Rattle.std.specs.Prelude.{◌≡◌};
-ghost use Rattle.model_examples.specs.Example.{course_of, last_of, table_of, traffic_of};
+ghost use Rattle.far_model.specs.History.{IsLegal};
+ghost use Rattle.model_examples.specs.Example.{course_of, last_of, log_of, table_of, traffic_of};
 ghost use Rattle.model_examples.specs.Plain;
 ghost use Rattle.model_examples.specs.PlainTraffic;
+ghost use Rattle.model_laws.specs.Placing.{history_of};
 
 /// Nothing is to be done.
 pub fn nothing_to_do()
@@ -17,6 +19,7 @@ pub fn put_and_get()
     ensures table { table_of Plain.put_and_get ≡ Plain.put_and_get.table }
     ensures course { course_of Plain.put_and_get ≡ Plain.put_and_get.course }
     ensures last { last_of Plain.put_and_get ≡ Plain.put_and_get.table.map }
+    ensures legal { IsLegal (log_of Plain.put_and_get) (history_of (log_of Plain.put_and_get)) }
     ensures traffic { traffic_of Plain.put_and_get ≡ PlainTraffic.put_and_get_traffic }
 {}
 

@@ -1,15 +1,18 @@
 //! Worked runs in which keys are admitted to slots.
 
 ghost use Rattle.std.specs.Prelude.{◌≡◌};
-ghost use Rattle.model_examples.specs.Example.{course_of, last_of, table_of, traffic_of};
+ghost use Rattle.far_model.specs.History.{IsLegal};
+ghost use Rattle.model_examples.specs.Example.{course_of, last_of, log_of, table_of, traffic_of};
 ghost use Rattle.model_examples.specs.Slots;
 ghost use Rattle.model_examples.specs.SlotsTraffic;
+ghost use Rattle.model_laws.specs.Placing.{history_of};
 
 /// A tagged read makes the slot latest with the old value, and the reply of the put raises it.
 pub fn reply_raises_latest()
     ensures table { table_of Slots.reply_raises_latest ≡ Slots.reply_raises_latest.table }
     ensures course { course_of Slots.reply_raises_latest ≡ Slots.reply_raises_latest.course }
     ensures last { last_of Slots.reply_raises_latest ≡ Slots.reply_raises_latest.table.map }
+    ensures legal { IsLegal (log_of Slots.reply_raises_latest) (history_of (log_of Slots.reply_raises_latest)) }
 {}
 
 /// The reply of the put passes an outdated slot, and the older tagged reply does not make it latest.

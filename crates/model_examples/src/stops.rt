@@ -39,6 +39,7 @@ pub fn stop_between_snapshots()
     ensures table { table_of Stops.stop_between_snapshots ≡ Stops.stop_between_snapshots.table }
     ensures course { course_of Stops.stop_between_snapshots ≡ Stops.stop_between_snapshots.course }
     ensures last { last_of Stops.stop_between_snapshots ≡ Stops.stop_between_snapshots.table.map }
+    ensures traffic { traffic_of Stops.stop_between_snapshots ≡ StopsTraffic.stop_between_snapshots_traffic }
 {}
 
 /// Three clients tell several records each, in parts that overtake each other.

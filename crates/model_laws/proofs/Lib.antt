@@ -1,4 +1,5 @@
 pub mod Answering
+pub mod Choosing
 pub mod Exposed
 pub mod Parting
 pub mod Passing

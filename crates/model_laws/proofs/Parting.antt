@@ -1,5 +1,5 @@
 -- A part leaves exactly at the first change of a slot, or where it is asked for.
-use Rattle.std.proofs.Common.{◌≡◌, ◌≢◌, ℕ, zero, suc, ◌+◌, ◌<◌, max, Bool, true, false, ◌&&◌, List, [], ◌∷◌, ◌++◌, length, set, get_or, refl, sym, ap, ◌∙◌, subst, get_or-set_same, eq-eqb}
+use Rattle.std.proofs.Common.{◌≡◌, ◌≢◌, ℕ, zero, suc, ◌+◌, ◌<◌, max, Bool, true, false, ◌&&◌, List, [], ◌∷◌, ◌++◌, length, set, get_or, refl, sym, ap, ◌∙◌, subst, get_or-set_same, eq-eqb, true≢false}
 use Rattle.std.specs.Prelude.{Option, None, Some, if◌then◌else◌, nat_eq, not}
 use Rattle.std.proofs.lemmas.List.Elements.{filter-append}
 use Rattle.std.proofs.lemmas.Option.{none-some, same_Some}
@@ -10,7 +10,7 @@ use Rattle.far_base.specs.declared.party.Party.TheVariants.{Client, Controller, 
 use Rattle.far_base.specs.declared.record.Record.{Record}
 use Rattle.far_model.specs.Parties.{to_party}
 use Rattle.far_model.specs.Pass.{Passed, absorbing, admitted, admits, changed_view, changes, dropped, grows_hot, hot_cell, is_as_before, is_slot_there, is_under, may_go, numbered, outs_of, part_left, part_of, part_packet, pass, passed_out, peeks, raised, read_at, read_passes, reads_part, removed_answer, reply_passes, sent_to, starts_snapshot, takes_reply, with_slot, with_taken, write_passes}
-use Rattle.far_model.specs.View.{SlotView, SwitchView, empty_slot, entry_place, held_record, is_taken, keyed_record, server_of, shown_body, slot_at}
+use Rattle.far_model.specs.View.{SwitchView, SlotView, empty_slot, entry_place, held_record, is_taken, keyed_record, mark_of, server_of, shown_at, shown_body, slot_at}
 use Rattle.model_laws.specs.Passes.{FreeIsOutdated, asked_place, changed_place, is_part, part_due, parts_in, taking_place}
 use Rattle.model_laws.proofs.Passing.{by_test, changed_slots}
 
@@ -107,7 +107,7 @@ parts_leave v (SnapFrom epoch id base) = none_or_dropped v (nat_eq epoch v.epoch
 parts_leave v (SnapRead epoch id i) = asked_parts v i (is_slot_there v epoch i) (nat_eq id v.snap)
 parts_leave v packet = refl
 
--- ---- from then on it is taken
+-- ---- from then on it is taken, and its mark is that of what it held
 
 taken_with : (v : SwitchView) (i : ℕ) (view : Option Record) → i < length v.taken → is_taken (with_taken v i view) i ≡ true
 taken_with v i view h = eq-eqb (get_or (set v.taken i v.snap) i 0) v.snap (get_or-set_same v.taken i v.snap 0 h)
@@ -119,47 +119,81 @@ taken_now v i slot h = go (is_taken v i) refl
     go true e = e
     go false e = taken_with (with_slot v i slot) i (held_record (slot_at v i)) h
 
-write_taken : (v : SwitchView) (caller op : ℕ) (key : List ℕ) (body : Option (List ℕ)) (place : Option ℕ) (i : ℕ) → place ≡ Some i → i < length v.taken → is_taken (write_passes (numbered v) caller op key body place).view i ≡ true
-write_taken v caller op key body None i e h = absurd (none-some i e)
-write_taken v caller op key body (Some j) i e h = subst (λ k. is_taken (changed_view (numbered v) j (absorbing (v.counter + 1) body (slot_at v j))) k ≡ true) (same_Some _ _ e)
-    (taken_now (numbered v) j (absorbing (v.counter + 1) body (slot_at v j)) (subst (λ k. k < length v.taken) (sym (same_Some _ _ e)) h))
+marked_with : (v : SwitchView) (i : ℕ) (view : Option Record) → i < length v.shown → shown_at (with_taken v i view) i ≡ mark_of view
+marked_with v i view h = get_or-set_same v.shown i (mark_of view) None h
 
-reply_taken : (v : SwitchView) (tag : Option ℕ) (num : ℕ) (body : Option (List ℕ)) (out : Option Out) (place : Option ℕ) (i : ℕ) → taking_place v tag num place ≡ Some i → i < length v.taken → is_taken (reply_passes v tag num body out place).view i ≡ true
-reply_taken v tag num body out None i e h = absurd (none-some i e)
-reply_taken v tag num body out (Some j) i e h = go (takes_reply tag num (slot_at v j)) e
-  where
-    go : (b : Bool) → (if b then Some j else None) ≡ Some i → is_taken (if b then changes v j (absorbing num body (slot_at v j)) out else record { view = with_slot v j (raised num (slot_at v j)); first = out; second = None }).view i ≡ true
-    go false k = absurd (none-some i k)
-    go true k = subst (λ m. is_taken (changed_view v j (absorbing num body (slot_at v j))) m ≡ true) (same_Some _ _ k)
-        (taken_now v j (absorbing num body (slot_at v j)) (subst (λ m. m < length v.taken) (sym (same_Some _ _ k)) h))
+marked_now : (v : SwitchView) (i : ℕ) (slot : SlotView) → is_taken v i ≡ false → i < length v.shown → shown_at (changed_view v i slot) i ≡ mark_of (held_record (slot_at v i))
+marked_now v i slot e h = subst (λ b. shown_at (if b then with_slot v i slot else with_taken (with_slot v i slot) i (held_record (slot_at v i))) i ≡ mark_of (held_record (slot_at v i))) (sym e)
+    (marked_with (with_slot v i slot) i (held_record (slot_at v i)) h)
 
-remove_taken : (v : SwitchView) (j i : ℕ) (a b c : Option Out) (t m l : Bool) → (if t && (m && l) then Some j else None) ≡ Some i → i < length v.taken
-    → is_taken (if t then (if m then (if l then changes v j empty_slot a else record { view = with_slot v j empty_slot; first = b; second = None }) else record { view = v; first = c; second = None }) else dropped v).view i ≡ true
-remove_taken v j i a b c true true true e h = subst (λ m. is_taken (changed_view v j empty_slot) m ≡ true) (same_Some _ _ e) (taken_now v j empty_slot (subst (λ m. m < length v.taken) (sym (same_Some _ _ e)) h))
-remove_taken v j i a b c true true false e h = absurd (none-some i e)
-remove_taken v j i a b c true false l e h = absurd (none-some i e)
-remove_taken v j i a b c false m l e h = absurd (none-some i e)
+-- what holds of each view in which the record of slot i is set holds after a pass that sets it
+module _ (v : SwitchView) (i : ℕ) (Q : SwitchView → Type 0) (now : (slot : SlotView) → Q (changed_view v i slot)) where
+  set_now : (j : ℕ) (slot : SlotView) → j ≡ i → Q (changed_view v j slot)
+  set_now j slot e = subst (λ k. Q (changed_view v k slot)) (sym e) (now slot)
+
+  by_reply : (tag : Option ℕ) (num : ℕ) (body : Option (List ℕ)) (out : Option Out) (place : Option ℕ) → taking_place v tag num place ≡ Some i → Q (reply_passes v tag num body out place).view
+  by_reply tag num body out None e = absurd (none-some i e)
+  by_reply tag num body out (Some j) e = go (takes_reply tag num (slot_at v j)) e
+    where
+      go : (b : Bool) → (if b then Some j else None) ≡ Some i → Q (if b then changes v j (absorbing num body (slot_at v j)) out else record { view = with_slot v j (raised num (slot_at v j)); first = out; second = None }).view
+      go false k = absurd (none-some i k)
+      go true k = set_now j (absorbing num body (slot_at v j)) (same_Some _ _ k)
+
+  by_removal : (j : ℕ) (a b c : Option Out) (t m l : Bool) → (if t && (m && l) then Some j else None) ≡ Some i
+      → Q (if t then (if m then (if l then changes v j empty_slot a else record { view = with_slot v j empty_slot; first = b; second = None }) else record { view = v; first = c; second = None }) else dropped v).view
+  by_removal j a b c true true true e = set_now j empty_slot (same_Some _ _ e)
+  by_removal j a b c true true false e = absurd (none-some i e)
+  by_removal j a b c true false l e = absurd (none-some i e)
+  by_removal j a b c false m l e = absurd (none-some i e)
+
+module _ (v : SwitchView) (i : ℕ) (Q : SwitchView → Type 0) where
+  by_write : ((slot : SlotView) → Q (changed_view (numbered v) i slot)) → (caller op : ℕ) (key : List ℕ) (body : Option (List ℕ)) (place : Option ℕ) → place ≡ Some i → Q (write_passes (numbered v) caller op key body place).view
+  by_write now caller op key body None e = absurd (none-some i e)
+  by_write now caller op key body (Some j) e = set_now (numbered v) i Q now j (absorbing (v.counter + 1) body (slot_at v j)) (same_Some _ _ e)
+
+  by_change : ((slot : SlotView) → Q (changed_view v i slot)) → ((slot : SlotView) → Q (changed_view (numbered v) i slot)) → (packet : Packet) → changed_place v packet ≡ Some i → Q (pass v packet).view
+  by_change now numbers (WriteReq caller op key body) e = by_write numbers caller op key body (entry_place key v) e
+  by_change now numbers (GetRep caller op key tag num body) e = by_reply v i Q now (Some tag) num body _ (entry_place key v) e
+  by_change now numbers (WriteRep caller op key num body) e = by_reply v i Q now None num body _ (entry_place key v) e
+  by_change now numbers (Remove epoch j tag latest num) e = by_removal v i Q now j _ _ _ (is_slot_there v epoch j) (may_go tag latest num (slot_at v j)) (slot_at v j).latest e
+  by_change now numbers packet e = absurd (none-some i e)
 
 pub taken_after : (v : SwitchView) (packet : Packet) (i : ℕ) → changed_place v packet ≡ Some i → i < length v.taken → is_taken (pass v packet).view i ≡ true
-taken_after v (WriteReq caller op key body) i e h = write_taken v caller op key body (entry_place key v) i e h
-taken_after v (GetRep caller op key tag num body) i e h = reply_taken v (Some tag) num body _ (entry_place key v) i e h
-taken_after v (WriteRep caller op key num body) i e h = reply_taken v None num body _ (entry_place key v) i e h
-taken_after v (Remove epoch j tag latest num) i e h = remove_taken v j i _ _ _ (is_slot_there v epoch j) (may_go tag latest num (slot_at v j)) (slot_at v j).latest e h
-taken_after v packet i e h = absurd (none-some i e)
+taken_after v packet i e h = by_change v i (λ w. is_taken w i ≡ true) (λ slot. taken_now v i slot h) (λ slot. taken_now (numbered v) i slot h) packet e
 
-asked_taken : (v : SwitchView) (j i : ℕ) (t e : Bool) → (if t && e then Some j else None) ≡ Some i → i < length v.taken
-    → is_taken (if t then (if e && not (is_taken v j) then record { view = with_taken v j (held_record (slot_at v j)); first = part_of v j; second = None } else dropped v) else dropped v).view i ≡ true
-asked_taken v j i true true is h = subst (λ m. is_taken (if true && not (is_taken v j) then record { view = with_taken v j (held_record (slot_at v j)); first = part_of v j; second = None } else dropped v).view m ≡ true) (same_Some _ _ is) (go (is_taken v j) refl)
-  where
-    go : (k : Bool) → is_taken v j ≡ k → is_taken (if true && not k then record { view = with_taken v j (held_record (slot_at v j)); first = part_of v j; second = None } else dropped v).view j ≡ true
-    go true k = k
-    go false k = taken_with v j (held_record (slot_at v j)) (subst (λ m. m < length v.taken) (sym (same_Some _ _ is)) h)
-asked_taken v j i true false is h = absurd (none-some i is)
-asked_taken v j i false e is h = absurd (none-some i is)
+pub marked_after : (v : SwitchView) (packet : Packet) (i : ℕ) → changed_place v packet ≡ Some i → is_taken v i ≡ false → i < length v.shown → shown_at (pass v packet).view i ≡ mark_of (held_record (slot_at v i))
+marked_after v packet i e f h = by_change v i (λ w. shown_at w i ≡ mark_of (held_record (slot_at v i))) (λ slot. marked_now v i slot f h) (λ slot. marked_now (numbered v) i slot f h) packet e
+
+-- a part that is asked for
+module _ (v : SwitchView) (i : ℕ) (Q : SwitchView → Type 0) (taken : is_taken v i ≡ true → Q v) (asked : is_taken v i ≡ false → Q (with_taken v i (held_record (slot_at v i)))) where
+  by_taken : (k : Bool) → is_taken v i ≡ k → Q (if true && not k then record { view = with_taken v i (held_record (slot_at v i)); first = part_of v i; second = None } else dropped v).view
+  by_taken true k = taken k
+  by_taken false k = asked k
+
+  by_read : (t e : Bool) → (if t && e then Some i else None) ≡ Some i
+      → Q (if t then (if e && not (is_taken v i) then record { view = with_taken v i (held_record (slot_at v i)); first = part_of v i; second = None } else dropped v) else dropped v).view
+  by_read true true is = by_taken (is_taken v i) refl
+  by_read true false is = absurd (none-some i is)
+  by_read false e is = absurd (none-some i is)
+
+asked_same : (t e : Bool) (j i : ℕ) → (if t && e then Some j else None) ≡ Some i → j ≡ i
+asked_same true true j i h = same_Some _ _ h
+asked_same true false j i h = absurd (none-some i h)
+asked_same false e j i h = absurd (none-some i h)
+
+by_asked : (v : SwitchView) (packet : Packet) (i : ℕ) (Q : ℕ → SwitchView → Type 0) → (is_taken v i ≡ true → Q i v) → (is_taken v i ≡ false → Q i (with_taken v i (held_record (slot_at v i)))) → asked_place v packet ≡ Some i → Q i (pass v packet).view
+by_asked v (SnapRead epoch id j) i Q taken asked e =
+    let same : j ≡ i = asked_same (is_slot_there v epoch j) (nat_eq id v.snap) j i e in
+    subst (λ k. Q k (pass v (SnapRead epoch id j)).view) same
+    (by_read v j (Q j) (subst (λ k. is_taken v k ≡ true → Q k v) (sym same) taken) (subst (λ k. is_taken v k ≡ false → Q k (with_taken v k (held_record (slot_at v k)))) (sym same) asked)
+    (is_slot_there v epoch j) (nat_eq id v.snap) (e ∙ ap Some (sym same)))
+by_asked v packet i Q taken asked e = absurd (none-some i e)
 
 pub taken_asked : (v : SwitchView) (packet : Packet) (i : ℕ) → asked_place v packet ≡ Some i → i < length v.taken → is_taken (pass v packet).view i ≡ true
-taken_asked v (SnapRead epoch id j) i e h = asked_taken v j i (is_slot_there v epoch j) (nat_eq id v.snap) e h
-taken_asked v packet i e h = absurd (none-some i e)
+taken_asked v packet i e h = by_asked v packet i (λ k w. is_taken w k ≡ true) (λ t. t) (λ f. taken_with v i (held_record (slot_at v i)) h) e
+
+pub marked_asked : (v : SwitchView) (packet : Packet) (i : ℕ) → asked_place v packet ≡ Some i → is_taken v i ≡ false → i < length v.shown → shown_at (pass v packet).view i ≡ mark_of (held_record (slot_at v i))
+marked_asked v packet i e f h = by_asked v packet i (λ k w. shown_at w k ≡ mark_of (held_record (slot_at v k))) (λ t. absurd (true≢false (sym t ∙ f))) (λ g. marked_with v i (held_record (slot_at v i)) h) e
 
 -- ---- the records of the other slots
 

@@ -8,4 +8,5 @@ use Rattle.far_model.specs.Members.{Among}
 -- each answer that has left the switch up to the moment for an operation on the key has at most this number
 abbrev pub AnswersAreAtMost : List LogLine → List ℕ → ℕ → ℕ → Type 0
 AnswersAreAtMost log key moment most = (at op num : ℕ) (body : Option (List ℕ)) (near : Bool)
-    → Among (record { moment = at; entry = Emitted op num body near }) log → at ≤ moment → is_on log key op ≡ true → num ≤ most
+    → Among (record { moment = at; entry = Emitted op num body near }) log → at ≤ moment
+    → is_on log key op ≡ true → num ≤ most

@@ -1,6 +1,8 @@
 pub mod Answers
 pub mod Below
+pub mod Choices
 pub mod Passes
+pub mod Placing
 pub mod Removals
 pub mod Rounds
 pub mod Ticks

@@ -1,5 +1,23 @@
--- What a pass changes: the slot that its packet concerns, the record that it sets or takes away, and the part that leaves.
-use Rattle.std.specs.Prelude.{◌≡◌, ◌≢◌, ℕ, ◌+◌, Bool, true, false, ◌&&◌, nat_eq, if◌then◌else◌, List, [], ◌∷◌, Option, None, Some}
+-- What a pass changes: the slot that its packet concerns, the record that it sets or takes away; and the part that
+-- leaves.
+use Rattle.std.specs.Prelude.{
+  ◌≡◌,
+  ◌≢◌,
+  ℕ,
+  ◌+◌,
+  Bool,
+  true,
+  false,
+  ◌&&◌,
+  nat_eq,
+  if◌then◌else◌,
+  List,
+  [],
+  ◌∷◌,
+  Option,
+  None,
+  Some,
+}
 use Rattle.std.specs.List.{filter}
 use Rattle.far_base.specs.declared.packet.Out.{Out}
 use Rattle.far_base.specs.declared.packet.Packet.{Packet}
@@ -93,8 +111,8 @@ pub record SlotStays (v w : SwitchView) (i : ℕ) : Type 0 where
   pub taken : taken_at w i ≡ taken_at v i
   pub shown : shown_at w i ≡ shown_at v i
 
--- a packet changes only what its row names: the counter a write, the snapshot its start, the binding of keys an admission,
--- the counts of hot keys a request, and of slots the one that it concerns
+-- a packet changes only what its row names: a write the counter, the start of a snapshot the snapshot, an admission the
+-- binding of keys, a request the counts of hot keys, and of the slots each the one that it concerns
 pub record ChangesItsOwn (v : SwitchView) (packet : Packet) (w : SwitchView) : Type 0 where
   pub config : w.config ≡ v.config
   pub epoch : w.epoch ≡ v.epoch

@@ -33,9 +33,12 @@ OtherServersUntouched s t server = (other : ℕ) → other ≢ server → record
 -- each slot but this one, and all else that the switch has
 pub record OtherSlotsUntouched (v w : SwitchView) (slot : ℕ) : Type 0 where
   pub slots : (other : ℕ) → other ≢ slot → slot_at w other ≡ slot_at v other
+  pub config : w.config ≡ v.config
   pub bound : w.bound ≡ v.bound
   pub taken : w.taken ≡ v.taken
+  pub shown : w.shown ≡ v.shown
   pub hot : w.hot ≡ v.hot
   pub counter : w.counter ≡ v.counter
   pub epoch : w.epoch ≡ v.epoch
   pub snap : w.snap ≡ v.snap
+  pub base : w.base ≡ v.base

@@ -7,8 +7,8 @@ ghost use Rattle.far_base.specs.declared.record.Record.{Record};
 ghost use Rattle.far_model.specs.State.{State};
 ghost use Rattle.model_laws.specs.Below.{HoldsBelow};
 
-/// Each place that covers a number of a key, the server, a latest slot, the last completed snapshot, a client and an answer
-/// on its way, covers the smaller numbers of the key too.
+/// Each place that covers a number of a key, the server, a latest slot, the last completed snapshot, a client and an
+/// answer on its way, covers the smaller numbers of the key too.
 pub fn covers_hold_below()
     ensures server { (plan : PlanView) (s : State) (key : List ℕ) → HoldsBelow (IsAtServer plan s key) }
     ensures records { (records : List Record) (key : List ℕ) → HoldsBelow (Covers records key) }

@@ -2,6 +2,7 @@
 //! to mean.
 #![tactic(auto)]
 
+mod choices;
 mod controller;
 mod covers;
 mod histories;
@@ -11,6 +12,7 @@ mod records;
 mod ticks;
 mod turns;
 
+pub use choices::{choices_are_what_can_happen, picked_events_can_happen};
 pub use controller::{latest_slots_are_stored_first, ready_is_all_answered};
 pub use covers::covers_hold_below;
 pub use histories::{every_log_has_one_history, exposed_is_the_least_bound};

@@ -17,7 +17,8 @@ pub fn wants_with_slots_are_dropped()
 /// Another want gets the lowest free slot.
 pub fn wants_get_free_slots()
     ensures { (c : ControllerState) (key : List ℕ) (i : ℕ)
-        → HasWant c key → NonePasses (has_key key) c.slots → IsFirst is_free c.slots i → tick c ≡ Some (admits_want c key i) }
+        → HasWant c key → NonePasses (has_key key) c.slots → IsFirst is_free c.slots i
+        → tick c ≡ Some (admits_want c key i) }
 {}
 
 /// Where no slot is free and no eviction is under way, the held slot that comes first from the hand on makes room.
@@ -27,8 +28,8 @@ pub fn victims_make_room()
         → IsVictim c.hand c.slots i → tick c ≡ Some (makes_room c i) }
 {}
 
-/// There is no tick exactly in a round, without a want, and where no slot is free and either an eviction is under way or
-/// no slot is held.
+/// There is no tick exactly in a round, without a want, and where no slot is free and either an eviction is under way
+/// or no slot is held.
 pub fn ticks_are_absent()
     ensures { (c : ControllerState) → tick c ≡ None ↔ HasNoTick c }
 {}

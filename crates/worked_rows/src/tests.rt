@@ -1,49 +1,59 @@
+use crate::rows::ROWS;
 use far_outside::{CleanSink, CleanSource, Failed, MemSink, MemSource, Source};
-use run_main::{Ended, Status, top_calm};
+use run_main::{Ended, Limit, Status, top_calm};
 use server_keeper::{MapKeeper, ScriptedKeeper};
 use std::alloc::Global;
+use std::process::Abort;
 use std::test::Fail;
 
-/// Words, input, what is written, and the status.
-const ROWS: [(&str, &str, &str, Status); 7] = [
-    (
-        "replay",
-        "far 1\nclients 1\nservers 1\nslots 1\nhot 0\n",
-        "far 1 report\nsteps 0\nhistory 0\ncontrol 0\nmap 0\nend\n",
-        Status::Done,
-    ),
-    (
-        "replay",
-        "far 1\nclients 1\nservers 1\nslots 1\nhot 0\nput 0 a =x\nget 0 a\n",
-        "far 1 report\nsteps 10\nhistory 2\n1 0 put a 1 =x server 1 5\n2 0 get a 1 =x server 6 10\ncontrol 0\nmap 1\na 1 =x\nend\n",
-        Status::Done,
-    ),
-    (
-        "replay",
-        "far 1\nclients 1\nservers 1\nslots 1\nhot 0\nget 0 a\n",
-        "far 1 report\nsteps 5\nhistory 1\n1 0 get a 0 - server 1 5\ncontrol 0\nmap 0\nend\n",
-        Status::Done,
-    ),
-    (
-        "replay",
-        "far 1\nclients 2\nservers 1\nslots 1\nhot 0\nput 0 a =x\nput 1 a =y\npicks 0 0 0 0 1 1 1\n",
-        "far 1 report\nsteps 10\nhistory 2\n1 0 put a 1 =x server 1 10\n2 1 put a 2 =y server 2 7\ncontrol 0\nmap 1\na 2 =y\nend\n",
-        Status::Done,
-    ),
+/// Words, input, what is written, and the status, where no report is due.
+const REFUSED: [(&str, &str, &str, Status); 13] = [
+    ("replay", "", "bad line 1\n", Status::BadLine(1)),
     (
         "replay",
         "far 1\nclients 1\n",
-        "not built\n",
-        Status::NotBuilt,
+        "bad line 3\n",
+        Status::BadLine(3),
     ),
-    ("replay", "", "not built\n", Status::NotBuilt),
     (
-        "run",
-        "far 1\nclients 1\nservers 1\nslots 1\nhot 0\n",
-        "usage: far replay, run, image, recover, or bulk START OPS\n",
-        Status::Usage,
+        "replay",
+        "far 1\nclients 1\nservers 1\nslots 1025\nhot 0\n",
+        "too large slots line 4\n",
+        Status::TooLarge(Limit::Slots, 4),
     ),
+    (
+        "replay",
+        "far 1\nclients 1\nservers 1\nslots 1\nhot 0\nget 0 abcdefghijklmnopq\n",
+        "bad line 6\n",
+        Status::BadLine(6),
+    ),
+    (
+        "replay",
+        "far 1\nclients 1\nservers 1\nslots 1\nhot 0\nget 1 a\n",
+        "bad line 6\n",
+        Status::BadLine(6),
+    ),
+    (
+        "replay",
+        "far 1\nclients 1\nservers 1\nslots 1\nhot 0\nget 0 a",
+        "bad line 6\n",
+        Status::BadLine(6),
+    ),
+    (
+        "replay",
+        "far 1\nclients 1\nservers 1\nslots 1\nhot 0\nget 0 a\nget 0  a\n",
+        "bad line 7\n",
+        Status::BadLine(7),
+    ),
+    ("run", "far 1\n", USAGE, Status::Usage),
+    ("image", "far 1\n", USAGE, Status::Usage),
+    ("recover", "far 1\n", USAGE, Status::Usage),
+    ("bulk", "far 1\n", USAGE, Status::Usage),
+    ("Replay", "far 1\n", USAGE, Status::Usage),
+    ("", "far 1\n", USAGE, Status::Usage),
 ];
+
+const USAGE: &str = "usage: far replay, run, image, recover, or bulk START OPS\n";
 
 /// A source that gives one byte at a time.
 #[derive(Drop)]
@@ -71,19 +81,79 @@ fn words_of(alloc: Global, word: &str) -> Result<Vec<String>, Fail> {
     Ok(words)
 }
 
+/// The one answer of a call over memory, where nothing fails.
+fn expect(
+    rt: &impl Abort,
+    alloc: Global,
+    word: &str,
+    input: &[u8],
+    output: &[u8],
+    expected: Status,
+) -> Result<(), Fail> {
+    let words = words_of(alloc, word)?;
+    let mut source = CleanSource::new(input.to_vec(alloc)?);
+    let mut sink = CleanSink::new(alloc);
+    let Ended {
+        status,
+        keeper: _keeper,
+    } = top_calm(alloc, &words, &mut source, &mut sink, MapKeeper::new(alloc));
+    assert_eq!(rt; status, expected);
+    assert!(rt; sink.bytes() == output);
+    Ok(())
+}
+
 #[test]
 fn rows_are_written_as_computed(rt: HostRuntime) -> Result<(), Fail> {
+    for (input, output) in ROWS {
+        expect(
+            &rt,
+            rt.alloc(),
+            "replay",
+            input.as_bytes(),
+            output.as_bytes(),
+            Status::Done,
+        )?;
+    }
+    Ok(())
+}
+
+#[test]
+fn a_refusal_is_one_line(rt: HostRuntime) -> Result<(), Fail> {
+    for (word, input, output, expected) in REFUSED {
+        expect(
+            &rt,
+            rt.alloc(),
+            word,
+            input.as_bytes(),
+            output.as_bytes(),
+            expected,
+        )?;
+    }
+    Ok(())
+}
+
+/// A body may have 256 bytes, and not one more.
+#[test]
+fn the_longest_body_is_taken(rt: HostRuntime) -> Result<(), Fail> {
     let alloc = rt.alloc();
-    for (word, input, output, expected) in ROWS {
-        let words = words_of(alloc, word)?;
-        let mut source = CleanSource::new(input.as_bytes().to_vec(alloc)?);
+    let head = ROWS[0].0.as_bytes();
+    for (bytes, expected) in [(256, Status::Done), (257, Status::TooLarge(Limit::Body, 6))] {
+        let words = words_of(alloc, "replay")?;
+        let mut input = head.to_vec(alloc)?;
+        input.extend_from_slice(b"put 0 a =")?;
+        for _ in 0..bytes {
+            input.push(b'x')?;
+        }
+        input.push(10)?;
+        let mut source = CleanSource::new(input);
         let mut sink = CleanSink::new(alloc);
         let Ended {
             status,
             keeper: _keeper,
         } = top_calm(alloc, &words, &mut source, &mut sink, MapKeeper::new(alloc));
         assert_eq!(rt; status, expected);
-        assert!(rt; sink.bytes() == output.as_bytes());
+        let refused = sink.bytes() == "too large body line 6\n".as_bytes();
+        assert_eq!(rt; refused, bytes == 257);
     }
     Ok(())
 }
@@ -92,7 +162,7 @@ fn rows_are_written_as_computed(rt: HostRuntime) -> Result<(), Fail> {
 fn a_failed_read_or_write_is_the_answer(rt: HostRuntime) -> Result<(), Fail> {
     let alloc = rt.alloc();
     let words = words_of(alloc, "replay")?;
-    let input = ROWS[1].1.as_bytes();
+    let input = ROWS[1].0.as_bytes();
     // The end of the input is seen by the second call.
     for (read, write, expected) in [
         (1, 9, Status::ReadFault),
@@ -117,7 +187,7 @@ fn a_failed_read_or_write_is_the_answer(rt: HostRuntime) -> Result<(), Fail> {
 fn a_failed_call_of_the_keeper_is_the_answer(rt: HostRuntime) -> Result<(), Fail> {
     let alloc = rt.alloc();
     let words = words_of(alloc, "replay")?;
-    let input = ROWS[1].1.as_bytes();
+    let input = ROWS[1].0.as_bytes();
     for call in [1, 2, 3, 4] {
         let mut source = CleanSource::new(input.to_vec(alloc)?);
         let mut sink = CleanSink::new(alloc);
@@ -131,7 +201,7 @@ fn a_failed_call_of_the_keeper_is_the_answer(rt: HostRuntime) -> Result<(), Fail
             keeper: _keeper,
         } = top_calm(alloc, &words, &mut source, &mut sink, keeper);
         assert_eq!(rt; status, Status::Done);
-        assert!(rt; sink.bytes() == ROWS[1].2.as_bytes());
+        assert!(rt; sink.bytes() == ROWS[1].1.as_bytes());
     }
     Ok(())
 }
@@ -140,9 +210,9 @@ fn a_failed_call_of_the_keeper_is_the_answer(rt: HostRuntime) -> Result<(), Fail
 fn bytes_may_come_one_by_one(rt: HostRuntime) -> Result<(), Fail> {
     let alloc = rt.alloc();
     let words = words_of(alloc, "replay")?;
-    let input = ROWS[1].1.as_bytes();
+    let input = ROWS[1].0.as_bytes();
     // The thirtieth read stands in the middle of the input.
-    for (fails, expected, output) in [(0, Status::Done, ROWS[1].2), (30, Status::ReadFault, "")] {
+    for (fails, expected, output) in [(0, Status::Done, ROWS[1].1), (30, Status::ReadFault, "")] {
         let mut source = OneByOne {
             whole: MemSource::new(input.to_vec(alloc)?, [fails].to_vec(alloc)?),
         };

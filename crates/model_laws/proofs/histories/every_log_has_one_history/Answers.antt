@@ -1,9 +1,9 @@
 use Rattle.model_laws.proofs.Places.{the_history}
-use Rattle.model_laws.proofs.Sorting.{a_history}
+use Rattle.model_laws.proofs.Sorting.{is_history}
 use Rattle.model_laws.proofs.histories.every_log_has_one_history.Goals as goal
 
-pub returns-clause-exists : goal.returns-clause-exists
-returns-clause-exists c log = a_history log
+pub returns-clause-computed : goal.returns-clause-computed
+returns-clause-computed c log = is_history log
 
 pub returns-clause-one : goal.returns-clause-one
 returns-clause-one c log first second h k = the_history log first second h k
