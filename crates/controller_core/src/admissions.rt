@@ -1,9 +1,3 @@
-use crate::controller::Controller;
-use crate::evicting::Evicting;
-use crate::note::Note;
-use crate::sending::send_to_switch;
-use far_base::{Key, Memory, Out, Packet, SlotState};
-
 ghost use Rattle.std.specs.Prelude.{◌≡◌, ◌+◌, ◌≤◌, ◌<◌, ◌^◌, ◌++◌, true, false, Some, None, IsTrue, IfSome, OnOk, OnErr, is_some, vec_len, vec_capacity};
 ghost use Rattle.far_model.specs.Controller as model;
 ghost use Rattle.far_model.specs.Evictions as slots;
@@ -11,6 +5,12 @@ ghost use Rattle.controller_core.specs.ControllerView.{at_state};
 ghost use Rattle.controller_core.specs.Notes.{notes_of};
 ghost use Rattle.controller_core.specs.Room.{HasRoom};
 ghost use Rattle.controller_core.specs.Wants.{first_want};
+
+use crate::controller::Controller;
+use crate::evicting::Evicting;
+use crate::note::Note;
+use crate::sending::send_to_switch;
+use far_base::{Key, Memory, Out, Packet, SlotState};
 
 impl Controller {
     /// Whether a held slot could make room for a want.

@@ -1,12 +1,12 @@
-use crate::controller::Controller;
-use crate::note::Note;
-use far_base::{Key, Memory, Out, Packet};
-
 ghost use Rattle.std.specs.Prelude.{◌≡◌, ◌++◌, IfOk, OnOk, OnErr};
 ghost use Rattle.far_model.specs.Controller as model;
 ghost use Rattle.controller_core.specs.ControllerView.{at_state};
 ghost use Rattle.controller_core.specs.Notes.{notes_of};
 ghost use Rattle.controller_core.specs.Room.{HasRoom};
+
+use crate::controller::Controller;
+use crate::note::Note;
+use far_base::{Key, Memory, Out, Packet};
 
 impl Controller {
     /// A key that has grown hot is wanted, unless a round is under way.

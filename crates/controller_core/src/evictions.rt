@@ -1,16 +1,16 @@
-use crate::controller::Controller;
-use crate::evicting::Evicting;
-use crate::note::Note;
-use crate::sending::{send_store, send_to_switch};
-use far_base::{Body, Memory, Out};
-use safe_evict::Next;
-
 ghost use Rattle.std.specs.Prelude.{◌≡◌, ◌+◌, ◌≤◌, ◌<◌, ◌^◌, ◌++◌, Some, IfOk, OnOk, OnErr, is_some, vec_len, vec_capacity};
 ghost use Rattle.far_model.specs.Controller as model;
 ghost use Rattle.controller_core.specs.ControllerView.{at_state, EvictsSlot};
 ghost use Rattle.controller_core.specs.Going.{goes_on_if};
 ghost use Rattle.controller_core.specs.Notes.{notes_of};
 ghost use Rattle.controller_core.specs.Room.{HasRoom};
+
+use crate::controller::Controller;
+use crate::evicting::Evicting;
+use crate::note::Note;
+use crate::sending::{send_store, send_to_switch};
+use far_base::{Body, Memory, Out};
+use safe_evict::Next;
 
 impl Controller {
     /// What comes next in an eviction, if anything does.

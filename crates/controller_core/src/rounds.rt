@@ -1,20 +1,27 @@
-use crate::controller::Controller;
-use crate::note::Note;
-use crate::sending::{
-    count_stores, open_round, send_store, send_stores, send_to_clients, send_to_servers, send_to_switch,
-};
-use far_base::{Config, Memory, Out, Packet, Record};
-use recovery::Round;
-
 ghost use Rattle.std.specs.Prelude.{◌≡◌, ◌+◌, ◌-◌, ◌≤◌, ◌<◌, ◌^◌, ◌++◌, ◌∷◌, [], true, false, Some, IfOk, OnOk, OnErr, is_some, length, vec_len, vec_capacity};
 ghost use Rattle.far_model.specs.Controller as model;
 ghost use Rattle.controller_core.specs.ControllerView.{at_state};
 ghost use Rattle.controller_core.specs.Notes.{notes_of};
 ghost use Rattle.controller_core.specs.Room.{HasRoom};
 
+use crate::controller::Controller;
+use crate::note::Note;
+use crate::sending::{
+    count_stores, open_round, send_store, send_stores, send_to_clients, send_to_servers,
+    send_to_switch,
+};
+use far_base::{Config, Memory, Out, Packet, Record};
+use recovery::Round;
+
 /// The record that a client told, where there is one, is stored under the job, and the round waits for it. The answer
 /// is how many jobs were drawn.
-fn send_told(config: &Config, job: u64, item: Option<Record>, round: &mut Round, out: &mut Vec<Out>) -> u64
+fn send_told(
+    config: &Config,
+    job: u64,
+    item: Option<Record>,
+    round: &mut Round,
+    out: &mut Vec<Out>,
+) -> u64
     requires servers { 1 ≤ config.now.servers }
     requires stores { round.old.stores + 1 < 2 ^ 64 - 1 }
     requires spare { vec_len out.old + 1 ≤ vec_capacity out.old }
@@ -48,7 +55,13 @@ impl Controller {
     {
         let stores = self.count_stores();
         out.reserve(self.config.clients as usize + stores as usize)?;
-        let round = open_round(self.alloc, &self.config, self.next_round, self.next_job, stores)?;
+        let round = open_round(
+            self.alloc,
+            &self.config,
+            self.next_round,
+            self.next_job,
+            stores,
+        )?;
         let number = self.next_round;
         send_to_clients(self.config.clients, &Packet::Ask { round: number }, out);
         let last = &self.last;

@@ -1,8 +1,3 @@
-use far_base::{Config, Memory, Out, Packet, Party, Record};
-use recovery::Round;
-use snapshot_core::Job;
-use std::alloc::Global;
-
 ghost use Rattle.std.specs.Prelude.{◌≡◌, ◌+◌, ◌≤◌, ◌<◌, ◌^◌, ◌++◌, ◌∷◌, [], length, IfOk, vec_len, vec_capacity};
 ghost use Rattle.far_base.specs.declared.party.Party.TheVariants as party;
 ghost use Rattle.far_model.specs.Controller as model;
@@ -11,6 +6,11 @@ ghost use Rattle.far_model.specs.Rounds.{new_round};
 ghost use Rattle.far_model.specs.Rounds as rounds;
 ghost use Rattle.far_model.specs.Snapshots.{part_reads, view_records};
 ghost use Rattle.far_model.specs.View.{server_of};
+
+use far_base::{Config, Memory, Out, Packet, Party, Record};
+use recovery::Round;
+use snapshot_core::Job;
+use std::alloc::Global;
 
 /// Appends a packet, for which there is room.
 fn send(to: Party, packet: Packet, out: &mut Vec<Out>)
@@ -89,7 +89,9 @@ pub(crate) fn count_stores(views: &[Option<Record>]) -> u64
 {
     let mut count = 0;
     for view in views {
-        if let Some(item) = view && item.num > 0 {
+        if let Some(item) = view
+            && item.num > 0
+        {
             count += 1;
         }
     }
@@ -98,7 +100,12 @@ pub(crate) fn count_stores(views: &[Option<Record>]) -> u64
 
 /// The records of the views that have a version number, each to the server of its key, under the next jobs from
 /// `first_job` on; there is room.
-pub(crate) fn send_stores(config: &Config, first_job: u64, views: &[Option<Record>], out: &mut Vec<Out>)
+pub(crate) fn send_stores(
+    config: &Config,
+    first_job: u64,
+    views: &[Option<Record>],
+    out: &mut Vec<Out>,
+)
     requires servers { 1 ≤ config.now.servers }
     requires jobs { first_job + length views.now < 2 ^ 64 }
     requires spare { vec_len out.old + length (model.numbered_records (view_records views.now)) ≤ vec_capacity out.old }
@@ -106,7 +113,9 @@ pub(crate) fn send_stores(config: &Config, first_job: u64, views: &[Option<Recor
 {
     let mut job = first_job;
     for view in views {
-        if let Some(item) = view && item.num > 0 {
+        if let Some(item) = view
+            && item.num > 0
+        {
             send_store(config, job, *item, out);
             job += 1;
         }

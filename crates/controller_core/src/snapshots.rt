@@ -1,9 +1,3 @@
-use crate::controller::Controller;
-use crate::note::Note;
-use crate::sending::{send_reads, send_to_clients, send_to_switch};
-use far_base::{Memory, Out, Packet, Record};
-use snapshot_core::Job;
-
 ghost use Rattle.std.specs.Prelude.{◌≡◌, ◌+◌, ◌≤◌, ◌<◌, ◌^◌, ◌++◌, ◌&&◌, [], slice_index_or, None, true, false, Some, IfOk, OnOk, OnErr, is_some, nat_eq, nat_lt, length, vec_len, vec_capacity};
 ghost use Rattle.far_model.specs.Controller as model;
 ghost use Rattle.far_model.specs.Snapshots as snapshots;
@@ -11,6 +5,12 @@ ghost use Rattle.controller_core.specs.ControllerView.{at_state};
 ghost use Rattle.controller_core.specs.Notes.{notes_of};
 ghost use Rattle.controller_core.specs.Going.{same_with};
 ghost use Rattle.controller_core.specs.Room.{HasRoom};
+
+use crate::controller::Controller;
+use crate::note::Note;
+use crate::sending::{send_reads, send_to_clients, send_to_switch};
+use far_base::{Memory, Out, Packet, Record};
+use snapshot_core::Job;
 
 impl Controller {
     /// Whether the last completed snapshot is of the present epoch, so that a part may refer to it.
@@ -104,7 +104,12 @@ impl Controller {
     }
 
     /// The switch has begun a snapshot.
-    pub(crate) fn snapshot_begun(&mut self, id: u32, point: u64, out: &mut Vec<Out>) -> Result<Note, Memory>
+    pub(crate) fn snapshot_begun(
+        &mut self,
+        id: u32,
+        point: u64,
+        out: &mut Vec<Out>,
+    ) -> Result<Note, Memory>
         ensures state { OnOk result (self.new ≡ at_state self.old (model.snapshot_begun self.old.config self.old.state id point self.old.state.job).state) }
         ensures out { OnOk result (out.new.items ≡ out.old.items ++ (model.snapshot_begun self.old.config self.old.state id point self.old.state.job).out) }
         ensures notes { IfOk result (λ note. notes_of note self.new.state.last ≡ (model.snapshot_begun self.old.config self.old.state id point self.old.state.job).notes) }
@@ -124,7 +129,13 @@ impl Controller {
     }
 
     /// The part of a slot.
-    pub(crate) fn part_came(&mut self, id: u32, slot: u32, view: Option<Record>, out: &mut Vec<Out>) -> Result<Note, Memory>
+    pub(crate) fn part_came(
+        &mut self,
+        id: u32,
+        slot: u32,
+        view: Option<Record>,
+        out: &mut Vec<Out>,
+    ) -> Result<Note, Memory>
         ensures state { OnOk result (self.new ≡ at_state self.old (model.part_came self.old.config self.old.state id slot view self.old.state.job).state) }
         ensures out { OnOk result (out.new.items ≡ out.old.items ++ (model.part_came self.old.config self.old.state id slot view self.old.state.job).out) }
         ensures notes { IfOk result (λ note. notes_of note self.new.state.last ≡ (model.part_came self.old.config self.old.state id slot view self.old.state.job).notes) }
@@ -145,7 +156,12 @@ impl Controller {
 
     /// The part of a slot, which is what the last completed snapshot has of it.
     #[tactic(auto, using(crate::proofs::Sames::no_view, crate::proofs::Sames::with_view))]
-    pub(crate) fn same_came(&mut self, id: u32, slot: u32, out: &mut Vec<Out>) -> Result<Note, Memory>
+    pub(crate) fn same_came(
+        &mut self,
+        id: u32,
+        slot: u32,
+        out: &mut Vec<Out>,
+    ) -> Result<Note, Memory>
         ensures state { OnOk result (self.new ≡ at_state self.old (model.same_came self.old.config self.old.state id slot self.old.state.job).state) }
         ensures out { OnOk result (out.new.items ≡ out.old.items ++ (model.same_came self.old.config self.old.state id slot self.old.state.job).out) }
         ensures notes { IfOk result (λ note. notes_of note self.new.state.last ≡ (model.same_came self.old.config self.old.state id slot self.old.state.job).notes) }

@@ -24,8 +24,17 @@ fn a_key_is_admitted_and_evicted(rt: HostRuntime) -> Result<(), Fail> {
     controller.tick(&mut out).map_err(|_| "no memory")?;
     let ack = Packet::AdmitAck { slot: 0, tag: 1 };
     let note = controller.deliver(&ack, &mut out).map_err(|_| "no memory")?;
-    assert_eq!(rt; note, Note::Admitted { slot: 0, key, tag: 1 });
-    controller.evict_key(&key, &mut out).map_err(|_| "no memory")?;
+    assert_eq!(rt;
+        note,
+        Note::Admitted {
+            slot: 0,
+            key,
+            tag: 1
+        }
+    );
+    controller
+        .evict_key(&key, &mut out)
+        .map_err(|_| "no memory")?;
     assert!(rt; controller.busy_evicting());
     assert_eq!(rt; out.len(), 2);
     Ok(())
@@ -41,19 +50,27 @@ fn a_snapshot_is_gathered_and_stored_again(rt: HostRuntime) -> Result<(), Fail> 
     };
     let mut out = Vec::new(rt.alloc());
     let mut controller = controller(&rt)?;
-    controller.start_snapshot(&mut out).map_err(|_| "no memory")?;
+    controller
+        .start_snapshot(&mut out)
+        .map_err(|_| "no memory")?;
     assert!(rt; controller.has_job());
     let part = Packet::SnapPart {
         id: 1,
         slot: 0,
         view: Some(item),
     };
-    controller.deliver(&part, &mut out).map_err(|_| "no memory")?;
+    controller
+        .deliver(&part, &mut out)
+        .map_err(|_| "no memory")?;
     let begun = Packet::SnapBegun { id: 1, point: 5 };
-    let note = controller.deliver(&begun, &mut out).map_err(|_| "no memory")?;
+    let note = controller
+        .deliver(&begun, &mut out)
+        .map_err(|_| "no memory")?;
     assert_eq!(rt; note, Note::Completed { same: 0 });
     assert_eq!(rt; controller.snapshot().point, 5);
-    controller.start_recovery(&mut out).map_err(|_| "no memory")?;
+    controller
+        .start_recovery(&mut out)
+        .map_err(|_| "no memory")?;
     assert!(rt; controller.has_round() && controller.ready().is_none());
     assert_eq!(rt; out.len(), 6);
     assert!(rt; out[5].to == Party::Server(0));

@@ -163,7 +163,6 @@ kept_is_run plan ceiling s [] h r = tt
 kept_is_run plan ceiling s (e ∷ es) h r =
     (r.0, answers_within ceiling s e h, kept_is_run plan (ceiling_after s e ceiling) (happens plan s e) es (servers_stay plan ceiling s e h) r.1)
 
-
 pub draws_with_steps : (plan : PlanView) (events : List Event) → IsRun plan (opening plan) events → DrawsWithSteps (run plan (opening plan) events)
 draws_with_steps plan events r = subst DrawsWithSteps (kept_events_run plan (opening plan) events) (run_draws plan 0 (opening plan) (kept_events plan (opening plan) events) (opens_draws plan) (kept_is_run plan 0 (opening plan) events (opening_within_none plan) r))
 

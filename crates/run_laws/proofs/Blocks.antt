@@ -232,8 +232,8 @@ module _ (plan : PlanView) (before : List Event) (valid : IsPlan plan) (runs : I
       let p = plain_blocks (now s) (recovery_items records) (items_plain records) in
       let block : RecoveredBlock = record { moment = now s; counter = counter; records = records } in
       let one : recovered_blocks lines ≡ block ∷ [] =
-          ap (λ rs. record { moment = now s; counter = counter; records = rs } ∷ recovered_blocks (map (line_at (now s)) (recovery_items records))) (items_back (now s) records)
-          ∙ ap (λ b. block ∷ b) p.0 in
+      ap (λ rs. record { moment = now s; counter = counter; records = rs } ∷ recovered_blocks (map (line_at (now s)) (recovery_items records))) (items_back (now s) records)
+      ∙ ap (λ b. block ∷ b) p.0 in
       let all = ap recovered_blocks log ∙ blocks_append s.log lines h.whole ∙ ap (λ b. recovered_blocks s.log ++ b) one in
       let new = subst (λ x. BlockIsRestart plan (before ++ x ∷ []) block) (sym is) (restart_block plan before valid runs counter able) in
       record {

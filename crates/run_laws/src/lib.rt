@@ -5,8 +5,8 @@
 
 mod evictions;
 mod histories;
-mod recoveries;
 mod records;
+mod recoveries;
 mod slots;
 mod snapshots;
 
