@@ -1,4 +1,5 @@
 -- Snapshots, hot keys, wants and admissions leave evictions as they are.
+use Rattle.far_invariants.specs.Covers.{look}
 use Rattle.far_invariants.proofs.Noted.{member}
 use Rattle.std.proofs.Common.{◌≡◌, ◌≢◌, ℕ, ◌⊎◌, inl, inr, Bool, true, false, List, [], ◌∷◌, ◌++◌, refl, sym, ap, ◌∙◌, arith}
 use Rattle.std.specs.Prelude.{Option, Some, None, if◌then◌else◌, ◌&&◌, nat_eq, nat_lt, is_some, slice_get, slice_set}
@@ -20,7 +21,6 @@ use Rattle.far_base.specs.declared.slot_state.SlotState.TheVariants.{Free, Admit
 use Rattle.far_model.specs.Controller.{ControllerState, wanted, snapshot_begun, part_came, job_turn, completes, admits_want, acknowledged, acked_state, with_state, same_came, same_part}
 use Rattle.far_model.specs.Events.{controller_turn, switch_turn}
 use Rattle.far_model.specs.Evictions.{state_at, is_free, first_place, is_admitting, key_in}
-use Rattle.far_invariants.specs.Invariants.{look}
 use Rattle.far_invariants.specs.EvictionNeeds.{PacketNeeds, Needs}
 use Rattle.far_model.specs.Members.{Among}
 use Rattle.far_model.specs.Parties.{Turn, idle, messages_from}

@@ -1,5 +1,6 @@
 -- Tags stay drawn.
-use Rattle.std.proofs.Common.{◌≡◌, ◌≢◌, ℕ, zero, suc, ◌+◌, ◌⊎◌, inl, inr, Bool, true, false, not, List, [], ◌∷◌, ◌++◌, length, refl, sym, ap, ◌∙◌, subst, arith}
+use Rattle.far_invariants.specs.Slots.{IsGiven}
+use Rattle.std.proofs.Common.{◌≡◌, ℕ, zero, suc, ◌+◌, ◌⊎◌, inl, inr, Bool, true, false, not, List, [], ◌∷◌, ◌++◌, length, refl, sym, subst, arith}
 use Rattle.std.specs.Prelude.{Option, Some, None, if◌then◌else◌, ◌&&◌, ◌-◌, nat_eq, nat_le, nat_lt, is_some, set, slice_get}
 use Rattle.std.specs.List.{remove}
 use Rattle.far_base.specs.PlanView.{PlanView}
@@ -18,9 +19,8 @@ use Rattle.far_base.specs.declared.slot_state.SlotState.TheVariants.{Free, Admit
 use Rattle.far_model.specs.Clients.{ClientState, request, client_takes, tells, tells_each}
 use Rattle.far_model.specs.Controller.{ControllerState, controller_takes, with_state, to_clients, to_servers, stores_of, store_outs, snapshot_stores, start_recovery, round_turn, told_round, wanted, first_want_dropped, evicts, acknowledged, acked_state, evicts_on, peek_answered, removal_answered, store_answered, round_stored, start_snapshot, snapshot_begun, part_came, job_turn, completes, client_told, top_told, same_came, same_part, is_last_present}
 use Rattle.far_model.specs.Evictions.{Eviction, Next, Send, Store as StoreNext, Done, Kept, TRIES, state_at, key_in, tag_in, is_admitting, begins_eviction, shown_item, after_peek, after_store, after_removal, waits_for, waits_job, storing, removing}
-use Rattle.far_invariants.specs.Invariants.{IsGiven}
 use Rattle.far_model.specs.Log.{is_read}
-use Rattle.far_model.specs.Members.{Among, Each, Pairs}
+use Rattle.far_model.specs.Members.{Among, Each}
 use Rattle.far_model.specs.Parties.{Turn, idle, to_party, messages_from}
 use Rattle.far_model.specs.Pass.{Passed, pass, sent_to, passed_out, outs_of, read_passes, write_passes, reply_passes, numbered, told_hot, grows_hot, hot_cell, changes, part_left, part_of, with_slot, with_taken, absorbing, raised, takes_reply, admits, peeks, removes, removed_answer, may_go, is_under, dropped, starts_snapshot, reads_part, is_slot_there, is_as_before}
 use Rattle.far_invariants.specs.Past.{DrawnTag}
@@ -32,7 +32,7 @@ use Rattle.far_model.proofs.Members.{among_append, among_append_left, among_map_
 use Rattle.flight_laws.proofs.Lists.{by_test, get_or-replicate_default}
 use Rattle.record_laws.proofs.Slots.{IsEntry, entry_is, both, there_is}
 use Rattle.far_invariants.specs.Evictions.{written_in}
-use Rattle.far_invariants.specs.DrawnTags.{WasDrawn, WasDrawnAt, TagIsDrawn, TagsAreDrawn, SlotTagsAreDrawn, TagsAreOnes}
+use Rattle.far_invariants.specs.DrawnTags.{WasDrawn, WasDrawnAt, TagIsDrawn, TagsAreDrawn, SlotTagsAreDrawn}
 use Rattle.far_invariants.specs.Evictions.{EvictionIs, EvictionsAreSound}
 use Rattle.far_invariants.specs.EvictionNeeds.{Needs}
 
@@ -383,10 +383,3 @@ pub request_draws : (drawn : List DrawnTag) (c op : ℕ) (line : OpLine) → Tag
 request_draws drawn c op line = by_test (TagIsDrawn drawn) (is_read line.op) (GetReq c op line.key) (WriteReq c op line.key line.body) tt tt
 
 -- ---- two draws of one tag are one
-
-pub drawn_one : (drawn : List DrawnTag) → Pairs (λ (a b : DrawnTag). a.tag ≢ b.tag) drawn → TagsAreOnes drawn
-drawn_one [] h a b x y same = absurd x
-drawn_one (d ∷ ds) h a b (inl e) (inl f) same = e ∙ sym f
-drawn_one (d ∷ ds) h a b (inl e) (inr y) same = absurd (each_among (λ (w : DrawnTag). d.tag ≢ w.tag) b ds h.0 y (ap (λ (w : DrawnTag). w.tag) (sym e) ∙ same))
-drawn_one (d ∷ ds) h a b (inr x) (inl f) same = absurd (each_among (λ (w : DrawnTag). d.tag ≢ w.tag) a ds h.0 x (ap (λ (w : DrawnTag). w.tag) (sym f) ∙ sym same))
-drawn_one (d ∷ ds) h a b (inr x) (inr y) same = drawn_one ds h.1 a b x y same

@@ -1,4 +1,5 @@
 -- Every event keeps it that each tag was drawn once, where the switch may stop too.
+use Rattle.far_invariants.specs.Slots.{IsGiven}
 use Rattle.std.proofs.Common.{◌≡◌, ◌≢◌, ℕ, ◌+◌, ◌<◌, ◌≤◌, ◌⊎◌, inl, inr, Bool, true, false, List, [], ◌∷◌, ◌++◌, append-nil, refl, sym, ap, ◌∙◌, subst, arith, eqb-true}
 use Rattle.std.specs.Prelude.{Option, Some, None, if◌then◌else◌, is_some, slice_get, nat_eq}
 use Rattle.std.specs.List.{remove}
@@ -20,7 +21,6 @@ use Rattle.far_model.specs.Clients.{client_takes, request, line_of}
 use Rattle.far_model.specs.Controller.{ControllerState, controller_takes, tick, tick_wants, tick_want, tick_free, tick_room, makes_room, wanted, admits_want, evict_held, ready}
 use Rattle.far_model.specs.Events.{happens, keeping_of, is_enabled, handled, reply_at, reply_message, delivers, can_deliver_some, reply_to, all_listed, ticks, sends, next_sent, does_order, is_order_due, is_order_enabled, is_possible, controller_turn}
 use Rattle.far_model.specs.Evictions.{state_at, is_free, has_key, holds_key, first_place, victim, hand_after}
-use Rattle.far_invariants.specs.Invariants.{IsGiven}
 use Rattle.far_model.specs.Members.{Among}
 use Rattle.far_model.specs.Parties.{Turn, idle, to_party}
 use Rattle.far_model.specs.Pass.{pass, passed_out}

@@ -1,4 +1,5 @@
 -- What was shown stays known: what a turn of each party has to say of what it shows anew.
+use Rattle.far_invariants.specs.Covers.{IsKnown, look}
 use Rattle.far_invariants.proofs.Noted.{IsNote, member, log_cases}
 use Rattle.std.proofs.Common.{◌≡◌, ◌≢◌, ℕ, zero, suc, ◌≤◌, ◌⊎◌, inl, inr, Bool, List, [], ◌∷◌, ◌++◌, refl, sym, ap, ◌∙◌, subst, arith, le_trans}
 use Rattle.std.specs.Prelude.{Option, Some, None, if◌then◌else◌, ◌&&◌, nat_eq, slice_get, set}
@@ -19,7 +20,6 @@ use Rattle.far_model.specs.Clients.{ClientState, line_of}
 use Rattle.far_model.specs.Controller.{ControllerState}
 use Rattle.far_model.specs.Events.{client_turn, controller_turn, server_turn, reply_message}
 use Rattle.far_model.specs.Evictions.{Eviction}
-use Rattle.far_invariants.specs.Invariants.{look}
 use Rattle.far_model.specs.Members.{Among, Each}
 use Rattle.far_model.specs.Parties.{Turn, messages_from}
 use Rattle.far_model.specs.Pass.{Passed, passed_out, outs_of, is_as_before, part_packet}
@@ -31,12 +31,12 @@ use Rattle.record_laws.proofs.Admissions.{nat_cases}
 use Rattle.record_laws.proofs.Controls.{IsControlNote}
 use Rattle.record_laws.proofs.Slots.{SetsSlot}
 use Rattle.record_laws.proofs.Step.{passed_state}
-use Rattle.far_invariants.specs.Known.{IsKnown, RecordIsKnown, ViewIsKnown, PacketIsKnown, ShownIsKnown}
+use Rattle.far_invariants.specs.Known.{RecordIsKnown, ViewIsKnown, PacketIsKnown, ShownIsKnown}
 use Rattle.far_invariants.specs.Evictions.{Onward}
 use Rattle.flight_laws.proofs.Lists.{by_test}
 
 pub known_onward : (plan : PlanView) (s t : State) → Onward plan s t → (key : List ℕ) (num : ℕ) → IsKnown plan s key num → IsKnown plan t key num
-known_onward plan s t o key num (inl w) = inl (record { op = w.op; on_key = w.on_key; numbered_at = w.numbered_at; numbered = o.still _ w.numbered; emitted_at = w.emitted_at; body = w.body; emitted = o.still _ w.emitted })
+known_onward plan s t o key num (inl w) = inl (record { op = w.op; on_key = w.on_key; numbered_at = w.numbered_at; numbered = o.still _ w.numbered; absorbed = record { emitted_at = w.absorbed.emitted_at; body = w.absorbed.body; emitted = o.still _ w.absorbed.emitted } })
 known_onward plan s t o key num (inr b) = inr (le_trans b (o.more key))
 
 pub view_onward : (plan : PlanView) (s t : State) → Onward plan s t → (view : Option Record) → ViewIsKnown plan s view → ViewIsKnown plan t view

@@ -1,4 +1,5 @@
 -- Packets of operations show only what is known.
+use Rattle.far_invariants.specs.Covers.{IsKnown, look}
 use Rattle.far_invariants.proofs.Noted.{note_member}
 use Rattle.far_base.specs.declared.record.Versioned.{Versioned}
 use Rattle.std.proofs.Common.{◌≡◌, ℕ, ◌+◌, ◌<◌, ◌≤◌, max, ◌⊎◌, inl, inr, Bool, true, false, List, [], ◌∷◌, refl, sym, ap, ◌∙◌, subst, arith}
@@ -21,7 +22,6 @@ use Rattle.far_base.specs.declared.record.Record.{Record}
 use Rattle.far_model.specs.Clients.{ClientState, line_of, request, client_takes, preserves, closed, answered_record}
 use Rattle.far_model.specs.Events.{handled, reply_at, sends, next_sent, switch_turn, server_turn, client_turn}
 use Rattle.far_invariants.specs.Flights.{subject, is_operation, IsRouted}
-use Rattle.far_invariants.specs.Invariants.{look}
 use Rattle.far_model.specs.KeyedRecords.{found, put_record}
 use Rattle.far_model.specs.Log.{is_read, same_key}
 use Rattle.far_model.specs.Members.{Among}
@@ -35,7 +35,7 @@ use Rattle.flight_laws.proofs.Lists.{by_test}
 use Rattle.record_laws.proofs.Slots.{IsEntry, entry_is, both, there_is, with_slot_sets, taken_sets, SetsSlot}
 use Rattle.record_laws.proofs.Step.{passed_state}
 use Rattle.far_invariants.specs.EvictionNeeds.{PacketsAreOnKey}
-use Rattle.far_invariants.specs.Known.{IsKnown, RecordIsKnown, ViewIsKnown, PacketIsKnown, ShownIsKnown}
+use Rattle.far_invariants.specs.Known.{RecordIsKnown, ViewIsKnown, PacketIsKnown, ShownIsKnown}
 use Rattle.eviction_laws.proofs.Knowing.{known_onward, view_onward, OutIsKnown, pass_onward, pass_knows, slots_same, slots_set, client_knows, served_onward, server_knows, part_known}
 use Rattle.far_invariants.specs.Evictions.{Onward}
 use Rattle.eviction_laws.proofs.Storing.{its_look, more_at}
@@ -99,9 +99,7 @@ module _ (plan : PlanView) (s : State) (h : ShownIsKnown plan s) (rest : List Me
             on_key = on;
             numbered_at = now s;
             numbered = note_member s t notes refl _ (inl refl);
-            emitted_at = now s;
-            body = None;
-            emitted = note_member s t notes refl _ (inr (inl refl));
+            absorbed = record { emitted_at = now s; body = None; emitted = note_member s t notes refl _ (inr (inl refl)) };
           })) in
           pass_knows plan s h rest rests (WriteReq caller op key body) p notes (tt, (known (line_of plan.ops op).key refl, tt))
           (slots_set plan s h rest rests (WriteReq caller op key body) p notes (numbered s.switch) (λ j. refl) i (absorbing w.counter body (slot_at s.switch i)) sets

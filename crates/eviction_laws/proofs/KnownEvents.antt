@@ -26,7 +26,7 @@ use Rattle.flight_laws.proofs.Lists.{get_or-replicate_default}
 use Rattle.record_laws.proofs.Slots.{both}
 use Rattle.far_invariants.specs.Evictions.{written_in}
 use Rattle.far_invariants.specs.Evictions.{EvictionsAreSound}
-use Rattle.far_model.specs.Members.{Among, is_empty}
+use Rattle.far_model.specs.Members.{Among}
 use Rattle.far_model.specs.Pass.{is_slot_there, is_under, peeks, removes, dropped}
 use Rattle.far_model.specs.Events.{switch_turn}
 use Rattle.far_model.specs.Clients.{ClientState}

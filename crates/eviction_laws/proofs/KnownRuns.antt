@@ -1,30 +1,13 @@
 -- In runs in which the switch never stops all that was shown is known.
-use Rattle.std.proofs.Common.{◌≡◌, ℕ, zero, suc, true, List, [], ◌∷◌, refl, sym, ap, ◌∙◌, subst}
+use Rattle.std.proofs.Common.{◌≡◌, ℕ, zero, suc, List, [], refl, sym, ap, ◌∙◌, subst}
 use Rattle.std.specs.Prelude.{Option, Some, None}
-use Rattle.far_base.specs.Limits.{IsPlan}
 use Rattle.far_base.specs.PlanView.{PlanView}
-use Rattle.far_base.specs.declared.event.Event.{Event}
 use Rattle.far_base.specs.declared.plan.OpLine.{OpLine}
-use Rattle.far_model.specs.Events.{happens, keeping_of, is_enabled}
 use Rattle.far_model.specs.Members.{Among}
-use Rattle.far_model.specs.Runs.{run, IsRun}
-use Rattle.far_model.specs.State.{State, opening, clients_from, nobody}
+use Rattle.far_model.specs.State.{opening, clients_from, nobody}
 use Rattle.far_model.specs.View.{SlotView, empty_slot}
-use Rattle.flight_laws.proofs.Handling.{IsInFlight, flight_opens, flight_step}
 use Rattle.flight_laws.proofs.Lists.{get_or-replicate_default}
-use Rattle.flight_laws.proofs.WithoutCache.{answers_in_kind}
 use Rattle.far_invariants.specs.Known.{ShownIsKnown}
-use Rattle.far_invariants.specs.Unstopped.{IsUnstopped}
-use Rattle.eviction_laws.proofs.EvictingRuns.{Runs, step_lasts, evicting_runs}
-use Rattle.eviction_laws.proofs.KnownEvents.{event_knows}
-use Rattle.eviction_laws.proofs.Needing.{needs_met, keys_met}
-
-step_knows : (plan : PlanView) (s : State) (e : Event) → Runs plan s → ShownIsKnown plan s → IsInFlight plan s → is_enabled plan s e ≡ true → ShownIsKnown plan (happens plan s e)
-step_knows plan s e h v f can = event_knows plan s e (needs_met plan s h.lasting.keeps h.lasting.seats f.routed h.outside) (keys_met plan s h.lasting.keeps) h.lasting.evictions v can
-
-run_knows : (plan : PlanView) (s : State) (events : List Event) → IsUnstopped plan → Runs plan s → ShownIsKnown plan s → IsInFlight plan s → IsRun plan s events → ShownIsKnown plan (run plan s events)
-run_knows plan s [] u h v f r = v
-run_knows plan s (e ∷ es) u h v f r = run_knows plan (happens plan s e) es u (step_lasts plan s e u h f r.0) (step_knows plan s e h v f r.0) (flight_step plan (keeping_of s e) s e f (answers_in_kind s e) r.0) r.1
 
 opening_preserves : (ops : List OpLine) (n more c : ℕ) → (Rattle.std.specs.Prelude.slice_index_or (clients_from ops n more) c nobody).preserved ≡ []
 opening_preserves ops n zero c = refl
@@ -41,6 +24,3 @@ opening_knows plan = record {
   last = λ r a. absurd a;
   item = λ e is. absurd cc;
 }
-
-pub known_runs : (plan : PlanView) (events : List Event) → IsPlan plan → IsUnstopped plan → IsRun plan (opening plan) events → ShownIsKnown plan (run plan (opening plan) events)
-known_runs plan events valid u r = run_knows plan (opening plan) events u (evicting_runs plan [] valid u tt) (opening_knows plan) (flight_opens plan) r

@@ -1,4 +1,5 @@
 -- Packets of the controller show only what is known.
+use Rattle.far_invariants.specs.Covers.{IsKnown}
 use Rattle.std.proofs.Common.{◌≡◌, ◌≢◌, ℕ, zero, suc, ◌+◌, ◌⊎◌, inl, inr, Bool, true, false, not, List, [], ◌∷◌, ◌++◌, length, map, refl, sym, ap, ◌∙◌, subst, arith}
 use Rattle.std.specs.Prelude.{Option, Some, None, if◌then◌else◌, ◌&&◌, nat_eq, nat_le, nat_lt, ◌-◌, is_some, slice_get, slice_set, replicate, set}
 use Rattle.std.specs.List.{remove, filter}
@@ -31,7 +32,7 @@ use Rattle.record_laws.proofs.Admissions.{nat_cases}
 use Rattle.record_laws.proofs.Controls.{IsControlNote}
 use Rattle.record_laws.proofs.Step.{passed_state}
 use Rattle.far_invariants.specs.Evictions.{is_eviction_of, EvictionsAreSound}
-use Rattle.far_invariants.specs.Known.{IsKnown, RecordIsKnown, ViewIsKnown, PacketIsKnown, ShownIsKnown}
+use Rattle.far_invariants.specs.Known.{RecordIsKnown, ViewIsKnown, PacketIsKnown, ShownIsKnown}
 use Rattle.eviction_laws.proofs.Known.{held_known}
 use Rattle.eviction_laws.proofs.Knowing.{known_onward, view_onward, OutIsKnown, EachIsKnown, pass_onward, pass_knows, slots_same, ruled_onward, turn_knows, olds_known, parts_stay, last_stays, item_stays, evicts_on as evicts_stay, client_knows, served_onward, part_known, among_views}
 use Rattle.eviction_laws.proofs.Onward.{none_at_all}

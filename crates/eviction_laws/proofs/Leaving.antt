@@ -1,4 +1,5 @@
 -- Packets of operations, of admissions and of snapshots leave evictions as they are.
+use Rattle.far_invariants.specs.Covers.{look}
 use Rattle.far_invariants.proofs.Noted.{member}
 use Rattle.std.proofs.Common.{◌≡◌, ℕ, ◌<◌, ◌≤◌, ◌⊎◌, inl, inr, Bool, true, false, cond, List, [], ◌∷◌, ◌++◌, refl, sym, ap, ◌∙◌, subst, arith}
 use Rattle.std.specs.Prelude.{Option, Some, None, slice_get, get_or, set}
@@ -18,7 +19,6 @@ use Rattle.far_model.specs.Replies.{RepliesAt}
 use Rattle.far_model.specs.Events.{Keeping, handled, sends, next_sent, switch_turn, server_turn, client_turn}
 use Rattle.far_model.specs.Evictions.{state_at}
 use Rattle.far_invariants.specs.Flights.{subject, is_operation, IsRouted}
-use Rattle.far_invariants.specs.Invariants.{look}
 use Rattle.far_model.specs.KeyedRecords.{found}
 use Rattle.far_model.specs.Log.{is_read}
 use Rattle.far_model.specs.Members.{Among}

@@ -1,4 +1,7 @@
 -- The switch shows what the slot of an eviction holds.
+use Rattle.far_invariants.specs.Slots.{IsSlotOf, IsGiven}
+use Rattle.far_invariants.specs.Numbers.{slot_if, entry}
+use Rattle.far_invariants.specs.Operations.{OperationsStand}
 use Rattle.std.proofs.Common.{◌≡◌, ℕ, ◌+◌, ◌⊎◌, inl, inr, Bool, true, false, cond, List, [], ◌∷◌, ◌++◌, refl, sym, ap, ◌∙◌, subst, arith, eq-eqb, ne_eqb, eqb-true, lt-ltb}
 use Rattle.std.specs.Prelude.{Some, None, if◌then◌else◌, ◌&&◌, nat_eq, nat_lt, slice_get}
 use Rattle.std.specs.List.{remove, count_by}
@@ -11,14 +14,12 @@ use Rattle.far_base.specs.declared.plan.Config.{Config}
 use Rattle.far_base.specs.declared.slot_state.SlotState.TheVariants.{Evicting}
 use Rattle.far_model.specs.Events.{switch_turn}
 use Rattle.far_model.specs.Evictions.{Eviction, state_at}
-use Rattle.far_invariants.specs.Invariants.{entry, slot_if, IsSlotOf, IsGiven}
 use Rattle.far_model.specs.Members.{Among}
 use Rattle.far_model.specs.Pass.{Passed, peeks, dropped, is_slot_there, is_under, sent_to}
 use Rattle.far_model.specs.Passes.{with_pass}
 use Rattle.far_model.specs.State.{State}
 use Rattle.far_model.specs.View.{SlotView, slot_at, shown_body}
 use Rattle.far_model.proofs.Members.{among_append, among_at, among_remove}
-use Rattle.record_laws.proofs.Keeps.{Keeps}
 use Rattle.record_laws.proofs.Seats.{counted, count_removed, count_append, count_one, Seats, bag_taken, same_seats, seats_last, unchanged_slots}
 use Rattle.far_invariants.specs.EvictionNeeds.{Needs}
 use Rattle.flight_laws.proofs.Lists.{by_test}
@@ -55,8 +56,8 @@ pub slot_written : (plan : PlanView) {c : Content} (s : State) → Needs plan c 
 slot_written plan s need i key tag is latest = need.slots key (slot_at s.switch i) (slot_entry plan s need i key tag is) latest
 
 -- a pass that changes no slot keeps everything
-pub quiet_pass_keeps : (plan : PlanView) (s t : State) (rest new : List Message) → Keeps plan s → t ≡ record s { bag = rest ++ new; passes = t.passes; steps = s.steps + 1; log = s.log ++ [] } → ((m : Message) → Among m rest → Among m s.bag) → AreSteady new → Keeps plan t
-quiet_pass_keeps plan s t rest new k is rests steady = subst (Keeps plan) (sym is) (rules_keep plan [] s u k r (λ key. slot_rests plan s u key (omega arith) refl))
+pub quiet_pass_keeps : (plan : PlanView) (s t : State) (rest new : List Message) → OperationsStand plan s → t ≡ record s { bag = rest ++ new; passes = t.passes; steps = s.steps + 1; log = s.log ++ [] } → ((m : Message) → Among m rest → Among m s.bag) → AreSteady new → OperationsStand plan t
+quiet_pass_keeps plan s t rest new k is rests steady = subst (OperationsStand plan) (sym is) (rules_keep plan [] s u k r (λ key. slot_rests plan s u key (omega arith) refl))
   where
     u : State
     u = record s { bag = rest ++ new; passes = t.passes; steps = s.steps + 1; log = s.log ++ [] }
@@ -80,10 +81,10 @@ quiet_pass_keeps plan s t rest new k is rests steady = subst (Keeps plan) (sym i
 
 -- ---- operations and owners
 
-module _ (plan : PlanView) (s : State) (k : Keeps plan s) (h : Seats plan s) (n : ℕ) (from to : Party) (own i tag : ℕ)
+module _ (plan : PlanView) (s : State) (k : OperationsStand plan s) (h : Seats plan s) (n : ℕ) (from to : Party) (own i tag : ℕ)
     (at : slice_get s.bag n ≡ Some (record { from = from; to = to; packet = Peek own i tag })) where
   abbrev KeepsAndSits : Passed → Type 0
-  KeepsAndSits p = Keeps plan (switch_turn s (remove s.bag n) (Peek own i tag) p) × Seats plan (switch_turn s (remove s.bag n) (Peek own i tag) p)
+  KeepsAndSits p = OperationsStand plan (switch_turn s (remove s.bag n) (Peek own i tag) p) × Seats plan (switch_turn s (remove s.bag n) (Peek own i tag) p)
 
   abbrev told : List Message → State
   told new = record s { bag = remove s.bag n ++ new; passes = with_pass s.passes (Peek own i tag); steps = s.steps + 1; log = s.log ++ [] }
@@ -92,7 +93,7 @@ module _ (plan : PlanView) (s : State) (k : Keeps plan s) (h : Seats plan s) (n 
   sits new steady = seats_last plan s (told new) h (same_seats s (told new) refl (unchanged_slots s.switch s.switch refl refl refl) refl refl (omega arith)
       (bag_taken s (told new) n _ new at refl refl (λ m a. steady_none m.packet (steady m a))))
 
-  both_with : (new : List Message) → AreSteady new → Keeps plan (told new) × Seats plan (told new)
+  both_with : (new : List Message) → AreSteady new → OperationsStand plan (told new) × Seats plan (told new)
   both_with new steady = (quiet_pass_keeps plan s (told new) (remove s.bag n) new k refl (λ m a. among_remove m s.bag n a) steady, sits new steady)
 
   pub peek_keeps : KeepsAndSits (if is_slot_there s.switch own i then peeks s.switch i tag (slot_at s.switch i) else dropped s.switch)

@@ -1,4 +1,8 @@
 -- A removal reaches the switch: the slot goes where it holds no more than was stored.
+use Rattle.far_invariants.specs.Slots.{IsSlotOf, FitsState, admission_count}
+use Rattle.far_invariants.specs.Numbers.{slot_if, entry, reach_by, reach}
+use Rattle.far_invariants.specs.Covers.{look}
+use Rattle.far_invariants.specs.Operations.{OperationsStand}
 use Rattle.far_invariants.proofs.Noted.{member}
 use Rattle.far_invariants.proofs.Keys.{key_cases}
 use Rattle.std.proofs.Common.{◌≡◌, ◌≢◌, ℕ, ◌+◌, ◌<◌, ◌≤◌, ◌⊎◌, inl, inr, Bool, true, false, cond, List, [], ◌∷◌, ◌++◌, length, refl, sym, ap, ◌∙◌, subst, arith, eq-eqb, ne_eqb, eqb-true}
@@ -14,14 +18,12 @@ use Rattle.far_base.specs.declared.party.Party.TheVariants.{Switch, Controller}
 use Rattle.far_base.specs.declared.slot_state.SlotState.TheVariants.{Evicting}
 use Rattle.far_model.specs.Events.{switch_turn}
 use Rattle.far_model.specs.Evictions.{Eviction, state_at}
-use Rattle.far_invariants.specs.Invariants.{look, entry, slot_if, reach, reach_by, FitsState, IsSlotOf, admission_count}
 use Rattle.far_model.specs.Members.{Among}
 use Rattle.far_model.specs.Pass.{removes, removed_answer, may_go, changes, dropped, is_slot_there, is_under, sent_to, with_slot, with_taken, part_of, is_as_before, part_packet}
 use Rattle.far_model.specs.Passes.{with_pass}
 use Rattle.far_model.specs.State.{State}
 use Rattle.far_model.specs.View.{SlotView, SwitchView, slot_at, entry_if, bound_place, is_slot_of, shown_body, empty_slot, is_taken, held_record}
 use Rattle.far_model.proofs.Members.{among_append, among_at, among_remove}
-use Rattle.record_laws.proofs.Keeps.{Keeps}
 use Rattle.record_laws.proofs.Requests.{reach_latest, reach_outdated}
 use Rattle.record_laws.proofs.Seats.{counted, count_removed, count_append, count_one, count_none, Seats, bag_taken, same_seats, seats_last, unchanged_slots}
 use Rattle.record_laws.proofs.Slots.{both, IsEntry, SetsSlot, entry_is, entry_kept, with_slot_sets, taken_sets}
@@ -268,15 +270,15 @@ module _ (plan : PlanView) {c : Content} (s : State) (need : Needs plan c s) (v 
 
   -- ---- operations and owners
 
-  module _ (k : Keeps plan s) (h : Seats plan s) where
-    stays : (new : List Message) → AreSteady new → Keeps plan (after new) × Seats plan (after new)
+  module _ (k : OperationsStand plan s) (h : Seats plan s) where
+    stays : (new : List Message) → AreSteady new → OperationsStand plan (after new) × Seats plan (after new)
     stays new steady = (
       quiet_pass_keeps plan s (after new) rest new k refl rests steady,
       seats_last plan s (after new) h (same_seats s (after new) refl (unchanged_slots s.switch s.switch refl refl refl) refl refl (omega arith)
           (bag_taken s (after new) n asked new at refl refl (λ m a. steady_none m.packet (steady m a)))),
     )
 
-    emptied_keeps : (same : own ≡ s.controller.epoch) → may_go tag latest num slot ≡ true → (w : SwitchView) (more : List Message) → Empties w more → Keeps plan (emptied w more) × Seats plan (emptied w more)
+    emptied_keeps : (same : own ≡ s.controller.epoch) → may_go tag latest num slot ≡ true → (w : SwitchView) (more : List Message) → Empties w more → OperationsStand plan (emptied w more) × Seats plan (emptied w more)
     emptied_keeps same goes w more g = (
       rules_keep plan [] s (emptied w more) k (record {
         log = refl;
@@ -333,9 +335,9 @@ module _ (plan : PlanView) {c : Content} (s : State) (need : Needs plan c s) (v 
           before = λ x is. absurd (let clash = sym entry_gone ∙ is in cc);
         })
 
-    pub remove_keeps : Keeps plan (removal (is_slot_there s.switch own i)) × Seats plan (removal (is_slot_there s.switch own i))
+    pub remove_keeps : OperationsStand plan (removal (is_slot_there s.switch own i)) × Seats plan (removal (is_slot_there s.switch own i))
     remove_keeps = go (is_slot_there s.switch own i) refl
       where
-        go : (b : Bool) → is_slot_there s.switch own i ≡ b → Keeps plan (removal b) × Seats plan (removal b)
-        go true on = let same = there_same plan s need runs own i on in removed same (λ t. Keeps plan t × Seats plan t) (λ off. stays (kept_answer ∷ []) (one_steady kept_answer refl)) (emptied_keeps same) (may_go tag latest num slot) refl
+        go : (b : Bool) → is_slot_there s.switch own i ≡ b → OperationsStand plan (removal b) × Seats plan (removal b)
+        go true on = let same = there_same plan s need runs own i on in removed same (λ t. OperationsStand plan t × Seats plan t) (λ off. stays (kept_answer ∷ []) (one_steady kept_answer refl)) (emptied_keeps same) (may_go tag latest num slot) refl
         go false off = stays [] no_steady

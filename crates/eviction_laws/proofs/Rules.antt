@@ -1,4 +1,7 @@
 -- Steps that touch no operation: they keep everything where servers' numbers rise and no slot goes that was still wanted.
+use Rattle.far_invariants.specs.Numbers.{entry, reach_by, reach, IsWritten}
+use Rattle.far_invariants.specs.Covers.{look}
+use Rattle.far_invariants.specs.Operations.{AdmitsOther, IsDrawn, Relies, IsOpenOrAnswered, OperationsStand}
 use Rattle.far_invariants.proofs.Noted.{member}
 use Rattle.std.proofs.Common.{◌≡◌, ℕ, ◌≤◌, max, ◌⊎◌, inl, inr, true, false, List, length, sym, ap, ◌∙◌, arith}
 use Rattle.std.specs.Prelude.{Option, Some, None, Bool, if◌then◌else◌}
@@ -6,13 +9,11 @@ use Rattle.far_base.specs.PlanView.{PlanView}
 use Rattle.far_base.specs.declared.log.LogEntry.{LogEntry}
 use Rattle.far_base.specs.declared.packet.Message.{Message}
 use Rattle.far_model.specs.Clients.{line_of}
-use Rattle.far_invariants.specs.Invariants.{look, entry, reach, reach_by, IsWritten}
 use Rattle.far_model.specs.Members.{Among, Each}
 use Rattle.far_model.specs.State.{State, client_at, now, noted}
 use Rattle.far_model.specs.View.{SlotView}
 use Rattle.record_laws.proofs.Controls.{IsControlNote, Nobody, note_is, note_off, note_sends, note_about, notes_rise, each_to}
 use Rattle.record_laws.proofs.Frame.{counted_on, AboutMine, NotOn, off_shows_each, shown_lasts, shown_within, Grows, written_lasts, left_lasts}
-use Rattle.record_laws.proofs.Keeps.{AdmitsOther, IsDrawn, Relies, IsOpenOrAnswered, Keeps}
 use Rattle.record_laws.proofs.Step.{IsOther, NoteIs, IsNoSending, sent_before, next}
 
 pub record Rules (plan : PlanView) (notes : List LogEntry) (s t : State) : Type 0 where
@@ -51,7 +52,7 @@ slot_rests plan s t key more same = record {
   before = λ slot is. sym same ∙ is;
 }
 
-pub rules_keep : (plan : PlanView) (notes : List LogEntry) (s t : State) → Keeps plan s → Rules plan notes s t → ((key : List ℕ) → SlotGoes plan s t key) → Keeps plan t
+pub rules_keep : (plan : PlanView) (notes : List LogEntry) (s t : State) → OperationsStand plan s → Rules plan notes s t → ((key : List ℕ) → SlotGoes plan s t key) → OperationsStand plan t
 rules_keep plan notes s t k c settles =
     next plan Nobody notes s t k g (each_to IsControlNote (NoteIs plan Nobody s t) notes (note_is plan s t) c.notes_are) (notes_rise notes c.notes_are)
     (λ m a. message m (c.bag m a)) (record {

@@ -1,16 +1,11 @@
 -- What is still to be known of numbers and records: where counters come from, and that snapshots hold written records.
 use Rattle.std.specs.Prelude.{◌≡◌, ℕ, ◌⊎◌, true, List, Option, Some, None, slice_index_or}
-use Rattle.far_base.specs.PlanView.{PlanView}
 use Rattle.far_base.specs.declared.log.LogLine.{LogLine}
 use Rattle.far_base.specs.declared.packet.Message.{Message}
 use Rattle.far_base.specs.declared.packet.Packet.{Packet}
 use Rattle.far_base.specs.declared.packet.Packet.TheVariants.{TopIs}
-use Rattle.far_base.specs.declared.record.Record.{Record}
-use Rattle.far_invariants.specs.Invariants.{IsWritten}
 use Rattle.far_model.specs.Members.{Among}
-use Rattle.far_invariants.specs.Past.{SnapshotStart}
 use Rattle.far_model.specs.Rounds.{Round}
-use Rattle.far_model.specs.Snapshots.{view_records}
 use Rattle.far_model.specs.State.{State}
 use Rattle.far_invariants.specs.Snapshots.{WasDrawn}
 

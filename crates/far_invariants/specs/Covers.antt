@@ -1,40 +1,45 @@
 -- Places that keep a write when the switch loses its memory.
-use Rattle.std.specs.Prelude.{◌≡◌, ℕ, ◌≤◌, ◌⊎◌, true, List, Option, None, Some}
+use Rattle.far_base.specs.declared.record.Versioned.{Versioned}
+use Rattle.far_model.specs.Clients.{line_of}
+use Rattle.std.specs.Prelude.{◌≡◌, ℕ, ◌≤◌, ◌⊎◌, true, List, Option, Some}
 use Rattle.far_base.specs.PlanView.{PlanView}
 use Rattle.far_base.specs.declared.log.LogLine.{LogLine}
-use Rattle.far_base.specs.declared.log.LogEntry.TheVariants.{Sent, Numbered, Emitted}
+use Rattle.far_base.specs.declared.log.LogEntry.TheVariants.{Numbered, Emitted}
 use Rattle.far_base.specs.declared.packet.Message.{Message}
 use Rattle.far_base.specs.declared.packet.Packet.TheVariants.{WriteAns}
-use Rattle.far_base.specs.declared.plan.OpLine.{OpLine}
 use Rattle.far_base.specs.declared.record.Record.{Record}
-use Rattle.far_model.specs.Coherent.{WasWritten}
 use Rattle.far_model.specs.KeyedRecords.{found}
 use Rattle.far_model.specs.Members.{Among}
 use Rattle.far_model.specs.Snapshots.{view_records}
-use Rattle.far_model.specs.State.{State, client_at, records_at}
+use Rattle.far_model.specs.State.{State, client_at, line_at, records_at}
 use Rattle.far_model.specs.View.{server_of, slot_at, held_record}
 
--- number 0 with no body, or the record of a write on the key
-abbrev pub IsWritten : List LogLine → ℕ → Record → Type 0
-IsWritten log moment r = ((r.num ≡ 0) × (r.body ≡ None)) ⊎ WasWritten log moment r.key r.num r.body
-
--- a write that the switch answered by itself, before any server had it
-pub record IsAbsorbed (log : List LogLine) (key : List ℕ) (num : ℕ) : Type 0 where
-  pub op : ℕ
-  pub sent_at : ℕ
-  pub line : OpLine
-  pub sent : Among (record { moment = sent_at; entry = Sent op line }) log
-  pub on_key : line.key ≡ key
-  pub numbered_at : ℕ
-  pub numbered : Among (record { moment = numbered_at; entry = Numbered op num }) log
+-- the switch answered the write with this number by itself
+pub record IsAnsweredNear (log : List LogLine) (op num : ℕ) : Type 0 where
   pub emitted_at : ℕ
   pub body : Option (List ℕ)
-  pub emitted : Among (record { moment = emitted_at; entry = Emitted op num body true }) log
+  pub emitted : Among (line_at emitted_at (Emitted op num body true)) log
+
+-- a write on the key, of the plan, has this number, and the switch answered it by itself, before any server had it
+pub record IsAbsorbed (plan : PlanView) (log : List LogLine) (key : List ℕ) (num : ℕ) : Type 0 where
+  pub op : ℕ
+  pub on_key : (line_of plan.ops op).key ≡ key
+  pub numbered_at : ℕ
+  pub numbered : Among (line_at numbered_at (Numbered op num)) log
+  pub absorbed : IsAnsweredNear log op num
 
 -- ---- places that cover a number of a key: they hold a record of the key with at least that number
 
+-- what the server of a key has for it
+abbrev pub look : PlanView → State → List ℕ → Versioned
+look plan s key = found (records_at s (server_of plan.config key)) key
+
 abbrev pub IsAtServer : PlanView → State → List ℕ → ℕ → Type 0
-IsAtServer plan s key num = num ≤ (found (records_at s (server_of plan.config key)) key).num
+IsAtServer plan s key num = num ≤ (look plan s key).num
+
+-- the number is absorbed, or at most that of its server
+abbrev pub IsKnown : PlanView → State → List ℕ → ℕ → Type 0
+IsKnown plan s key num = IsAbsorbed plan s.log key num ⊎ IsAtServer plan s key num
 
 -- one of the records covers the number
 pub record Covers (records : List Record) (key : List ℕ) (num : ℕ) : Type 0 where

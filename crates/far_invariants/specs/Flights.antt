@@ -70,7 +70,8 @@ open_count waits = if is_some waits then 1 else 0
 
 -- each open operation has exactly one packet on its way, and no other operation has one
 pub record OneFlightPerOperation (s : State) : Type 0 where
-  pub waited : (m : Message) (caller op : ℕ) → Among m s.bag → subject m.packet ≡ OfOperation caller op → (caller < length s.clients) × ((client_at s caller).waits ≡ Some op)
+  pub waited : (m : Message) (caller op : ℕ) → Among m s.bag → subject m.packet ≡ OfOperation caller op
+      → (caller < length s.clients) × ((client_at s caller).waits ≡ Some op)
   pub one : (c : ℕ) → flights_of c s.bag ≡ open_count (client_at s c).waits
 
 -- ---- routes
@@ -158,3 +159,8 @@ pub record IsRouted (plan : PlanView) (s : State) : Type 0 where
   pub clients : length s.clients ≡ plan.config.clients
   pub servers : length s.servers ≡ plan.config.servers
   pub messages : (m : Message) → Among m s.bag → Travels plan.config m.from m.to m.packet
+
+-- routes and flights together
+pub record IsInFlight (plan : PlanView) (s : State) : Type 0 where
+  pub routed : IsRouted plan s
+  pub one : OneFlightPerOperation s

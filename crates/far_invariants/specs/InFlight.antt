@@ -1,4 +1,5 @@
 -- Admissions, evictions, snapshots and rounds: each that is under way has its packets on their way.
+use Rattle.far_invariants.specs.Slots.{IsGiven, is_admission_of, admits_under, admission_count}
 use Rattle.std.specs.Prelude.{◌≡◌, ℕ, ◌+◌, ◌<◌, ◌≤◌, max, ◌⊎◌, Bool, true, false, ◌&&◌, not, nat_eq, nat_le, if◌then◌else◌, List, [], length, slice_index_or, Option, None, Some, is_some}
 use Rattle.std.specs.List.{count_by, list_all}
 use Rattle.far_base.specs.PlanView.{PlanView}
@@ -14,7 +15,6 @@ use Rattle.far_model.specs.Controller.{ControllerState}
 use Rattle.far_model.specs.Events.{is_switch}
 use Rattle.far_model.specs.Evictions.{Eviction, is_due, state_at}
 use Rattle.far_invariants.specs.Flights.{Subject, OfAdmission, OfEviction, OfJob, OfSnapshot, OfRound, subject}
-use Rattle.far_invariants.specs.Invariants.{IsGiven, is_admission_of, admits_under, admission_count}
 use Rattle.far_model.specs.Members.{Among}
 use Rattle.far_model.specs.Rounds.{Round, no_telling, has_told, telling_at, asks_tops}
 use Rattle.far_model.specs.State.{State}
@@ -38,7 +38,8 @@ pub record EpochsFit (s : State) : Type 0 where
 
 -- ---- admissions
 
--- an admission of the controller's epoch is of a slot that is being admitted under its key and tag, and one that comes back is too
+-- an admission of the controller's epoch is of a slot that is being admitted under its key and tag, and one that comes
+-- back is too
 abbrev pub AdmissionFits : ControllerState → Packet → Type 0
 AdmissionFits c (Admit epoch i key tag) = c.round ≡ None → epoch ≡ c.epoch → state_at c.slots i ≡ Admitting key tag
 AdmissionFits c (AdmitAck i tag) = (key : List ℕ) × (state_at c.slots i ≡ Admitting key tag)
@@ -52,10 +53,13 @@ AdmissionMeets v epoch _ = Unit {0}
 
 pub record AdmissionsFly (s : State) : Type 0 where
   pub given : (i tag : ℕ) (key : List ℕ) → IsGiven key tag (state_at s.controller.slots i) → tag < s.controller.next_tag
-  pub drawn : (m : Message) (i tag : ℕ) → Among m s.bag → subject m.packet ≡ OfAdmission i tag → tag < s.controller.next_tag
+  pub drawn : (m : Message) (i tag : ℕ) → Among m s.bag → subject m.packet ≡ OfAdmission i tag
+      → tag < s.controller.next_tag
   pub fits : (m : Message) → Among m s.bag → AdmissionFits s.controller m.packet
   pub meets : s.running ≡ true → (m : Message) → Among m s.bag → AdmissionMeets s.switch s.controller.epoch m.packet
-  pub one : s.controller.round ≡ None → (i : ℕ) → count_by (λ (m : Message). is_admission_of i s.controller.epoch m.packet) s.bag ≡ admission_count (state_at s.controller.slots i)
+  pub one : s.controller.round ≡ None → (i : ℕ)
+      → count_by (λ (m : Message). is_admission_of i s.controller.epoch m.packet) s.bag
+      ≡ admission_count (state_at s.controller.slots i)
   pub once : (tag : ℕ) → count_by (λ (m : Message). admits_under tag m.packet) s.bag ≤ 1
   pub empty : s.running ≡ true → (i : ℕ) → state_at s.controller.slots i ≡ Free → (slot_at s.switch i).valid ≡ false
 
@@ -98,19 +102,24 @@ pub record IsEvicted (c : ControllerState) (i tag : ℕ) : Type 0 where
 -- the own packet of the controller's eviction is there exactly once
 abbrev pub OwnFlies : ControllerState → List Message → Option Eviction → Type 0
 OwnFlies c bag None = Unit {0}
-OwnFlies c bag (Some e) = EvictionIs c e × (count_by (λ (m : Message). is_own e (subject m.packet)) bag ≡ 1) × ((m : Message) → Among m bag → is_own e (subject m.packet) ≡ true → FitsDue c.epoch e m.packet)
+OwnFlies c bag (Some e) = EvictionIs c e × (count_by (λ (m : Message). is_own e (subject m.packet)) bag ≡ 1)
+    × ((m : Message) → Among m bag → is_own e (subject m.packet) ≡ true → FitsDue c.epoch e m.packet)
 
 -- a done removal that comes back left an empty slot
 abbrev pub Emptied : SwitchView → ControllerState → Packet → Type 0
-Emptied v c (RemoveAns i tag done latest num body) = done ≡ true → (key : List ℕ) → IsGiven key tag (state_at c.slots i) → (slot_at v i).valid ≡ false
+Emptied v c (RemoveAns i tag done latest num body) = done ≡ true → (key : List ℕ) → IsGiven key tag (state_at c.slots i)
+    → (slot_at v i).valid ≡ false
 Emptied v c _ = Unit {0}
 
 pub record EvictionsFly (s : State) : Type 0 where
-  pub tags : (m : Message) (i tag : ℕ) → Among m s.bag → subject m.packet ≡ OfEviction i tag → tag < s.controller.next_tag
+  pub tags : (m : Message) (i tag : ℕ) → Among m s.bag → subject m.packet ≡ OfEviction i tag
+      → tag < s.controller.next_tag
   pub jobs : (m : Message) (job : ℕ) → Among m s.bag → subject m.packet ≡ OfJob job → job < s.controller.next_job
   -- a packet of an eviction under a tag that its slot still has is of the eviction that is under way
-  pub owned : (m : Message) (i tag : ℕ) (key : List ℕ) → Among m s.bag → subject m.packet ≡ OfEviction i tag → IsGiven key tag (state_at s.controller.slots i) → IsEvicted s.controller i tag
-  pub evicting : (i tag : ℕ) (key : List ℕ) → state_at s.controller.slots i ≡ Evicting key tag → IsEvicted s.controller i tag
+  pub owned : (m : Message) (i tag : ℕ) (key : List ℕ) → Among m s.bag → subject m.packet ≡ OfEviction i tag
+      → IsGiven key tag (state_at s.controller.slots i) → IsEvicted s.controller i tag
+  pub evicting : (i tag : ℕ) (key : List ℕ) → state_at s.controller.slots i ≡ Evicting key tag
+      → IsEvicted s.controller i tag
   pub flies : OwnFlies s.controller s.bag s.controller.eviction
   pub emptied : s.running ≡ true → (m : Message) → Among m s.bag → Emptied s.switch s.controller m.packet
 
@@ -187,12 +196,14 @@ pub record RoundIs (plan : PlanView) (s : State) (r : Round) : Type 0 where
   pub untold : r.asked ≡ false → (n : ℕ) → is_some (slice_index_or r.tops n None) ≡ false
   pub stores : count_by (λ (m : Message). is_job_from r.first_job (subject m.packet)) s.bag ≡ r.stores
   pub tellings : (c : ℕ) → c < plan.config.clients → IsAsked s.bag r c ⊎ IsTelling s.bag r c
-  pub tops : (n : ℕ) → n < plan.config.servers → count_by (λ (m : Message). is_top r.number n m.to m.packet) s.bag ≡ due_top r n
+  pub tops : (n : ℕ) → n < plan.config.servers
+      → count_by (λ (m : Message). is_top r.number n m.to m.packet) s.bag ≡ due_top r n
 
 abbrev pub RoundFlies : PlanView → State → Option Round → Type 0
 RoundFlies plan s None = Unit {0}
 RoundFlies plan s (Some r) = RoundIs plan s r
 
 pub record RoundsFly (plan : PlanView) (s : State) : Type 0 where
-  pub numbers : (m : Message) (number : ℕ) → Among m s.bag → subject m.packet ≡ OfRound number → number < s.controller.next_round
+  pub numbers : (m : Message) (number : ℕ) → Among m s.bag → subject m.packet ≡ OfRound number
+      → number < s.controller.next_round
   pub round : RoundFlies plan s s.controller.round

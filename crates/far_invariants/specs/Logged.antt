@@ -1,4 +1,5 @@
 -- What the log keeps of the operations, and what the clients have of them.
+use Rattle.far_invariants.specs.Logs.{IsTimely, SendsByPlan}
 use Rattle.std.specs.Prelude.{◌≡◌, ℕ, ◌⊎◌, List, Some}
 use Rattle.far_base.specs.PlanView.{PlanView}
 use Rattle.far_base.specs.declared.log.LogEntry.TheVariants.{Sent, Answered}
@@ -7,7 +8,6 @@ use Rattle.far_base.specs.declared.plan.OpLine.{OpLine}
 use Rattle.far_model.specs.Clients.{line_of}
 use Rattle.far_model.specs.Members.{Among}
 use Rattle.far_model.specs.State.{State, client_at, line_at}
-use Rattle.far_invariants.specs.Invariants.{IsTimely, SendsByPlan}
 use Rattle.far_invariants.specs.Sent.{AreSentOrLeft, HasBeenSent}
 
 pub record WasAnswered (log : List LogLine) (op : ℕ) : Type 0 where

@@ -1,5 +1,5 @@
 -- What an event notes, as far as operations go.
-use Rattle.std.specs.Prelude.{◌≡◌, ℕ, ◌<◌, ◌≤◌, Bool, true, false, List, [], ◌∷◌, length, Option, None, Some}
+use Rattle.std.specs.Prelude.{◌≡◌, ℕ, ◌≤◌, List, [], ◌∷◌, length, Option, None, Some}
 use Rattle.std.specs.List.{count_by}
 use Rattle.far_base.specs.PlanView.{PlanView}
 use Rattle.far_base.specs.declared.event.Event.{Event}
@@ -52,7 +52,8 @@ pub record ClientsGoOn (s t : State) : Type 0 where
   pub waits : (c : ℕ) → (client_at t c).waits ≡ (client_at s c).waits
   pub left : (c : ℕ) → (client_at t c).left ≡ (client_at s c).left
 
--- an event sends an operation of a client, or answers the one that it waits for, or passes it through the switch, or is a
+-- an event sends an operation of a client, or answers the one that it waits for, or passes it through the switch, or is
+-- a
 -- restart, or notes nothing of these
 pub data EventNotes (plan : PlanView) (k : Keeping) (s : State) (e : Event) (t : State) : Type 0 where
   OfSending : (c op : ℕ) (left : List ℕ) → (client_at s c).waits ≡ None → (client_at s c).left ≡ op ∷ left

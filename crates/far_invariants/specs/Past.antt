@@ -78,7 +78,11 @@ new_recoveries s _ = []
 
 -- what is remembered after the event that happens in this state
 abbrev pub remembers : State → Past → Event → Past
-remembers s p e = record { starts = p.starts ++ new_starts s e; drawn = p.drawn ++ new_drawn s e; recoveries = p.recoveries ++ new_recoveries s e }
+remembers s p e = record {
+  starts = p.starts ++ new_starts s e;
+  drawn = p.drawn ++ new_drawn s e;
+  recoveries = p.recoveries ++ new_recoveries s e;
+}
 
 abbrev pub past_from : PlanView → State → Past → List Event → Past
 past_from plan s p [] = p

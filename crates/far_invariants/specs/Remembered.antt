@@ -7,7 +7,8 @@ use Rattle.far_model.specs.Runs.{run}
 use Rattle.far_model.specs.State.{State}
 
 -- one of the events made it, in the state that the events before had left
-pub record WasMadeBy {X : Type 0} (made_by : State → Event → List X) (plan : PlanView) (start : State) (events : List Event) (x : X) : Type 0 where
+pub record WasMadeBy {X : Type 0} (made_by : State → Event
+    → List X) (plan : PlanView) (start : State) (events : List Event) (x : X) : Type 0 where
   pub earlier : List Event
   pub event : Event
   pub later : List Event

@@ -20,9 +20,11 @@ pub record IsFlying (s : State) (p : Message → Bool) : Type 0 where
 -- a round is there only while the switch is stopped, and everything that it waits for is on its way
 pub record RoundInFlight (plan : PlanView) (s : State) (r : Round) : Type 0 where
   pub stopped : s.running ≡ false
-  pub client : (c : ℕ) → c < plan.config.clients → has_told (telling_at r c) ≡ false → IsFlying s (asks r.number c) ⊎ IsFlying s (tells_for r.number c)
+  pub client : (c : ℕ) → c < plan.config.clients → has_told (telling_at r c) ≡ false → IsFlying s (asks r.number c)
+      ⊎ IsFlying s (tells_for r.number c)
   pub store : 0 < r.stores → IsFlying s (stores_for r.first_job)
-  pub top : r.asked ≡ true → (n : ℕ) → n < plan.config.servers → slice_index_or r.tops n None ≡ None → IsFlying s (tops_for r.number n)
+  pub top : r.asked ≡ true → (n : ℕ) → n < plan.config.servers → slice_index_or r.tops n None ≡ None
+      → IsFlying s (tops_for r.number n)
   pub before : r.asked ≡ false → (list_all has_told r.told && nat_eq r.stores 0) ≡ false
   pub free : (i : ℕ) → state_at s.controller.slots i ≡ Free
   pub no_wants : s.controller.wants ≡ []

@@ -1,4 +1,6 @@
 -- What numbers and slots need of the other subjects in the state before an event.
+use Rattle.far_invariants.specs.Numbers.{ExposedAtMost}
+use Rattle.far_invariants.specs.Covers.{look}
 use Rattle.std.specs.Prelude.{◌≡◌, ℕ, ◌≤◌, is_some, true, List, None, Some}
 use Rattle.far_base.specs.PlanView.{PlanView}
 use Rattle.far_base.specs.declared.log.LogEntry.TheVariants.{Numbered}
@@ -6,7 +8,6 @@ use Rattle.far_base.specs.declared.slot_state.SlotState.TheVariants.{Free}
 use Rattle.far_model.specs.Controller.{ready}
 use Rattle.far_model.specs.Evictions.{state_at}
 use Rattle.far_invariants.specs.Flights.{IsRouted, OneFlightPerOperation}
-use Rattle.far_invariants.specs.Invariants.{look, ExposedAtMost}
 use Rattle.far_model.specs.Members.{Among}
 use Rattle.far_model.specs.State.{State, line_at}
 use Rattle.far_invariants.specs.Evictions.{Content, EvictionsAre, EvictionsAreSound}
@@ -20,7 +21,8 @@ pub record Needs (plan : PlanView) (s : State) : Type 0 where
   -- flights: proved of every run
   pub routed : IsRouted plan s
   pub one : OneFlightPerOperation s
-  -- stops: a round is under way only while the switch is stopped (`stopped`), and no slot is given to a key then (`free`)
+  -- stops: a round is under way only while the switch is stopped (`stopped`), and no slot is given to a key then
+  -- (`free`)
   pub outside : s.running ≡ true → s.controller.round ≡ None
   pub freed : is_some s.controller.round ≡ true → (i : ℕ) → state_at s.controller.slots i ≡ Free
   -- stops: what a restart finds (`IsRestored.own`, `.shown`)

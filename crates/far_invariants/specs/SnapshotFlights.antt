@@ -49,13 +49,17 @@ pub record SnapshotsInFlight (plan : PlanView) (s : State) (starts : List Snapsh
   -- no slot has two parts
   pub once : (j : Job) → s.controller.job ≡ Some j → (i : ℕ) → parts_in j.id i s.bag + held_part j i ≤ 1
   -- while the switch runs: a slot whose part was taken has one, on its way or held
-  pub one : s.running ≡ true → (j : Job) → s.controller.job ≡ Some j → WasStarted starts j.id → (i : ℕ) → i < plan.config.slots → is_taken s.switch i ≡ true → parts_in j.id i s.bag + held_part j i ≡ 1
+  pub one : s.running ≡ true → (j : Job) → s.controller.job ≡ Some j → WasStarted starts j.id → (i : ℕ)
+      → i < plan.config.slots → is_taken s.switch i ≡ true → parts_in j.id i s.bag + held_part j i ≡ 1
   -- a job whose start has not passed has it on its way
-  pub start : s.running ≡ true → (j : Job) → s.controller.job ≡ Some j → WasStarted starts j.id ⊎ Flies (IsStartIn s.controller.epoch j.id) s.bag
+  pub start : s.running ≡ true → (j : Job) → s.controller.job ≡ Some j → WasStarted starts j.id
+      ⊎ Flies (IsStartIn s.controller.epoch j.id) s.bag
   -- one whose start has passed and that has not begun has that on its way
-  pub begun : s.running ≡ true → (j : Job) → s.controller.job ≡ Some j → WasStarted starts j.id → j.begun ≡ None → Flies (IsBegunOf j.id) s.bag
+  pub begun : s.running ≡ true → (j : Job) → s.controller.job ≡ Some j → WasStarted starts j.id → j.begun ≡ None
+      → Flies (IsBegunOf j.id) s.bag
   -- and once it has begun, a slot whose part was not taken has its read on its way
-  pub reads : s.running ≡ true → (j : Job) (point : ℕ) → s.controller.job ≡ Some j → j.begun ≡ Some point → (i : ℕ) → i < plan.config.slots → is_taken s.switch i ≡ false → Flies (IsReadOf s.controller.epoch j.id i) s.bag
+  pub reads : s.running ≡ true → (j : Job) (point : ℕ) → s.controller.job ≡ Some j → j.begun ≡ Some point → (i : ℕ)
+      → i < plan.config.slots → is_taken s.switch i ≡ false → Flies (IsReadOf s.controller.epoch j.id i) s.bag
 
 -- flights: every message goes to the party that its kind says
 abbrev pub AreRouted : PlanView → State → Type 0

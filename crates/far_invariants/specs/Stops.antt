@@ -1,4 +1,5 @@
 -- What holds across stops of the switch: what outlives a stop, and what a round of recovery restores.
+use Rattle.far_invariants.specs.Numbers.{IsWritten, NumbersDiffer, NumbersArrive}
 use Rattle.std.specs.Prelude.{◌≡◌, ◌≢◌, ℕ, suc, ◌+◌, ◌<◌, ◌≤◌, ◌⊎◌, max, Bool, true, false, nat_eq, nat_le, ◌&&◌, List, [], length, slice_index_or, None, Some, if◌then◌else◌, is_some, Option}
 use Rattle.std.specs.List.{count_by}
 use Rattle.far_base.specs.PlanView.{PlanView}
@@ -14,28 +15,29 @@ use Rattle.far_model.specs.Clients.{line_of}
 use Rattle.far_model.specs.Controller.{ControllerState}
 use Rattle.far_model.specs.Events.{is_switch}
 use Rattle.far_model.specs.Evictions.{state_at}
-use Rattle.far_invariants.specs.Invariants.{IsWritten, NumbersDiffer, NumbersArrive, IsAbsorbed}
-use Rattle.far_invariants.specs.Covers.{IsAtServer, Covers, IsInSnapshot, IsPreserved, IsKeptInFlight}
+use Rattle.far_invariants.specs.Covers.{IsAtServer, Covers, IsInSnapshot, IsPreserved, IsKeptInFlight, IsAnsweredNear, IsAbsorbed}
 use Rattle.far_model.specs.Members.{Among, Pairs}
 use Rattle.far_model.specs.Rounds.{Round, Telling, asks_tops, no_telling, telling_at}
 use Rattle.far_model.specs.Servers.{top_of}
 use Rattle.far_model.specs.Snapshots.{view_records}
 use Rattle.far_model.specs.State.{State, client_at, records_at, line_at}
 use Rattle.far_model.specs.View.{server_of}
-use Rattle.far_invariants.specs.StopNeeds.{IsAbsorbedOn, IsGenuine}
+use Rattle.far_invariants.specs.StopNeeds.{IsGenuine}
 
 -- ---- what outlives a stop
 
 -- a place that outlives a stop covers the number, or an answer on its way to one does
 abbrev pub Outlives : PlanView → State → List ℕ → ℕ → Type 0
-Outlives plan s key num = IsAtServer plan s key num ⊎ (IsInSnapshot s key num ⊎ (IsPreserved s key num ⊎ IsKeptInFlight s key num))
+Outlives plan s key num = IsAtServer plan s key num
+    ⊎ (IsInSnapshot s key num ⊎ (IsPreserved s key num ⊎ IsKeptInFlight s key num))
 
 abbrev pub AbsorbedIsKept : PlanView → State → Type 0
-AbsorbedIsKept plan s = (key : List ℕ) (num : ℕ) → IsAbsorbedOn plan s.log key num → Outlives plan s key num
+AbsorbedIsKept plan s = (key : List ℕ) (num : ℕ) → IsAbsorbed plan s.log key num → Outlives plan s key num
 
 -- an answer that its client has still to preserve is the newest that the client then has of the key
 abbrev pub IsNewest : State → Packet → Type 0
-IsNewest s (WriteAns caller op key num kept) = kept ≡ true → (r : Record) → Among r (client_at s caller).preserved → r.key ≡ key → r.num ≤ num
+IsNewest s (WriteAns caller op key num kept) = kept ≡ true → (r : Record) → Among r (client_at s caller).preserved
+    → r.key ≡ key → r.num ≤ num
 IsNewest s _ = Unit {0}
 
 -- the write has this number, and the switch answered it by itself
@@ -43,7 +45,7 @@ pub record IsTakenUp (s : State) (op num : ℕ) : Type 0 where
   pub numbered_at : ℕ
   pub numbered : Among (line_at numbered_at (Numbered op num)) s.log
   pub before : numbered_at ≤ s.steps
-  pub absorbed : IsAbsorbed s.log op num
+  pub absorbed : IsAnsweredNear s.log op num
 
 abbrev pub IsKeptAnswer : State → Packet → Type 0
 IsKeptAnswer s (WriteAns caller op key num kept) = kept ≡ true → IsTakenUp s op num
@@ -132,7 +134,8 @@ IsRestoring plan s r key num = IsAtServer plan s key num ⊎ IsStoring s r.first
 
 -- any other record besides may be told, or be still at its client
 abbrev pub IsRestored : PlanView → State → Round → List ℕ → ℕ → Type 0
-IsRestored plan s r key num = IsRestoring plan s r key num ⊎ (IsTold plan s r.number key num ⊎ IsStillAsked plan s r.number key num)
+IsRestored plan s r key num = IsRestoring plan s r key num
+    ⊎ (IsTold plan s r.number key num ⊎ IsStillAsked plan s r.number key num)
 
 -- ---- the counters of a round
 
@@ -225,7 +228,8 @@ pub record InRound (plan : PlanView) (kept : List Record) (s : State) (r : Round
   pub snapshot_below : (x : Record) → Among x (view_records s.controller.last.views) → Covers kept x.key x.num
   pub packets_below : (m : Message) → Among m s.bag → IsBelowIn kept r.number m.packet
   -- all of the kept list is restored, or under way
-  pub snapshot : (x : Record) → Among x (view_records s.controller.last.views) → 0 < x.num → IsRestoring plan s r x.key x.num
+  pub snapshot : (x : Record) → Among x (view_records s.controller.last.views) → 0 < x.num
+      → IsRestoring plan s r x.key x.num
   pub restored : (x : Record) → Among x kept → 0 < x.num → IsRestored plan s r x.key x.num
   -- counters, by party
   pub tellings : (c : ℕ) → c < plan.config.clients → IsToBeAsked s r c ⊎ HasAnswered s r c
@@ -235,7 +239,8 @@ pub record InRound (plan : PlanView) (kept : List Record) (s : State) (r : Round
   pub tops : (n top : ℕ) → slice_index_or r.tops n None ≡ Some top → (r.asked ≡ true) × (top_of (records_at s n) ≤ top)
   pub packet_tops : (m : Message) → Among m s.bag → IsTopRight s r m.packet
   -- each top that was asked for was heard, or its question or answer is on its way
-  pub top_flights : r.asked ≡ true → (n : ℕ) → n < plan.config.servers → heard_top (slice_index_or r.tops n None) + count_by (tops_for r.number n) s.bag ≡ 1
+  pub top_flights : r.asked ≡ true → (n : ℕ) → n < plan.config.servers
+      → heard_top (slice_index_or r.tops n None) + count_by (tops_for r.number n) s.bag ≡ 1
 
 pub record IsUnderWay (plan : PlanView) (kept : List Record) (s : State) (r : Round) : Type 0 where
   pub goes : InRound plan kept s r

@@ -28,11 +28,13 @@ pub record IsUncachedPlan (plan : PlanView) : Type 0 where
 abbrev pub GoesTo : Config → Packet → Party → Type 0
 GoesTo config (GetReq caller op key) to = (to ≡ Switch) × (caller < config.clients)
 GoesTo config (WriteReq caller op key body) to = (to ≡ Switch) × (caller < config.clients)
-GoesTo config (GetFwd caller op key tag) to = (to ≡ Server (server_of config key)) × (caller < config.clients) × (tag ≡ 0)
+GoesTo config (GetFwd caller op key tag) to = (to ≡ Server (server_of config key)) × (caller < config.clients)
+    × (tag ≡ 0)
 GoesTo config (WriteFwd caller op key num body) to = (to ≡ Server (server_of config key)) × (caller < config.clients)
 GoesTo config (GetRep caller op key tag num body) to = (to ≡ Switch) × (caller < config.clients) × (tag ≡ 0)
 GoesTo config (WriteRep caller op key num body) to = (to ≡ Switch) × (caller < config.clients)
-GoesTo config (GetAns caller op key num body near) to = (to ≡ Client caller) × (caller < config.clients) × (near ≡ false)
+GoesTo config (GetAns caller op key num body near) to = (to ≡ Client caller) × (caller < config.clients)
+    × (near ≡ false)
 GoesTo config (WriteAns caller op key num kept) to = (to ≡ Client caller) × (caller < config.clients) × (kept ≡ false)
 GoesTo config _ to = ⊥
 

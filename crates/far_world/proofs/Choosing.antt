@@ -1,5 +1,5 @@
 -- The choices of a state: how many there are, which is at a place, and that each can happen.
-use Rattle.std.proofs.Common.{◌≡◌, ℕ, zero, suc, ◌+◌, ◌-◌, ◌<◌, ◌≤◌, ◌%◌, ◌⊎◌, inl, inr, Bool, true, false, not, ◌&&◌, List, [], ◌∷◌, ◌++◌, length, get_or, take, refl, sym, ap, ◌∙◌, subst, cond, Some, None, arith, length-append}
+use Rattle.std.proofs.Common.{◌≡◌, ℕ, zero, suc, ◌+◌, ◌-◌, ◌<◌, ◌≤◌, ◌%◌, ◌⊎◌, inl, inr, Bool, true, false, not, ◌&&◌, List, [], ◌∷◌, ◌++◌, length, get_or, take, refl, sym, ap, ◌∙◌, subst, cond, Some, arith}
 use Rattle.std.proofs.lemmas.List.{get_or-append_right}
 use Rattle.std.proofs.lemmas.List.Sums.{sum_by-cons}
 use Rattle.std.proofs.lemmas.Option.{same_Some}
@@ -15,7 +15,7 @@ use Rattle.far_model.specs.Controller.{tick, ready}
 use Rattle.far_model.specs.Events.{can_send, can_deliver, can_recover, choices, choice_if, deliver_choices, is_enabled, is_order_enabled, send_choices}
 use Rattle.far_model.specs.Members.{Among, is_empty}
 use Rattle.far_model.specs.Runs.{choice, is_quiet, next_event}
-use Rattle.far_model.specs.State.{State, client_at, nobody}
+use Rattle.far_model.specs.State.{State, nobody}
 
 -- the events of the elements that pass, from number c on
 abbrev pub chosen_by : {X : Type 0} → (X → Bool) → (ℕ → Event) → ℕ → List X → List Event

@@ -1,7 +1,6 @@
 -- What an event makes of all parties, from what each party's turn makes of them.
-use Rattle.std.proofs.Common.{◌≡◌, ℕ, zero, suc, ◌+◌, ◌<◌, ◌≤◌, max, Bool, true, false, cond, List, [], ◌∷◌, ◌++◌, length, refl, sym, ap, ◌∙◌, subst, Some, None, arith, length-append}
+use Rattle.std.proofs.Common.{◌≡◌, ℕ, zero, suc, ◌+◌, ◌<◌, ◌≤◌, max, Bool, cond, List, [], ◌∷◌, ◌++◌, length, refl, sym, ap, ◌∙◌, subst, Some, None, arith, length-append}
 use Rattle.std.proofs.lemmas.List.Sums.{sum_by-cons}
-use Rattle.std.proofs.lemmas.Option.{same_Some}
 use Rattle.std.specs.List.{count_by, remove}
 use Rattle.std.specs.Option.{option_map}
 use Rattle.std.specs.Prelude.{IfSome, Option, is_some, slice_get, slice_set}
@@ -18,14 +17,13 @@ use Rattle.far_base.specs.declared.plan.Order.{Order}
 use Rattle.far_base.specs.declared.plan.Order.TheVariants.{Admit, Evict, Snap, Stop, StopAt}
 use Rattle.far_base.specs.declared.plan.TheConstants.{ORDER_LIMIT, SNAP_LIMIT, STOP_LIMIT}
 use Rattle.far_base.specs.declared.record.Record.{Record}
-use Rattle.far_invariants.specs.Addressed.{ComesTo, ComesToServer}
+use Rattle.far_invariants.specs.Addressed.{ComesToServer}
 use Rattle.far_model.specs.Clients.{client_takes}
 use Rattle.far_model.specs.Controller.{ControllerState, controller_takes, ready, tick}
-use Rattle.far_model.specs.Events.{Keeping, all_listed, does_order, handled, happens, happens_with, keeping_of, reply_message, restarts, server_turn, ticks}
-use Rattle.far_model.specs.Members.{Each}
+use Rattle.far_model.specs.Events.{Keeping, all_listed, does_order, handled, happens, happens_with, keeping_of, reply_message, restarts, ticks}
 use Rattle.far_model.specs.Parties.{Turn, messages_from}
 use Rattle.far_model.specs.Pass.{pass, passed_out}
-use Rattle.far_model.specs.Replies.{IsReplyTo, KeepersAnswer, ceiling_after}
+use Rattle.far_model.specs.Replies.{KeepersAnswer, ceiling_after}
 use Rattle.far_model.specs.Servers.{put_number, reply_number, server_keeps, server_reply}
 use Rattle.far_model.specs.State.{State, client_at, records_at}
 use Rattle.far_outside.specs.Keeping.{records_of}

@@ -12,3 +12,5 @@ mod Opened
 mod Merging
 mod Counting
 mod Worlds
+mod Keeping
+mod FirstEvents

@@ -11,11 +11,11 @@ use Rattle.far_history.specs.RoomyLog.{RoomyLog}
 use Rattle.far_model.specs.Clients.{ClientState}
 use Rattle.far_model.specs.Controller.{opening_controller}
 use Rattle.far_model.specs.Passes.{no_passes}
-use Rattle.far_model.specs.State.{State, clients_from, opening}
+use Rattle.far_model.specs.State.{clients_from, opening}
 use Rattle.far_model.specs.View.{SwitchView, opening_view}
 use Rattle.controller_core.specs.ControllerView.{ControllerView}
 use Rattle.far_world.specs.Ready.{IsOpened}
-use Rattle.far_world.specs.Scene.{IsFit, KeeperView, Scene, Tells, scene_of, told_by}
+use Rattle.far_world.specs.Scene.{KeeperView, scene_of, told_by}
 use Rattle.far_world.specs.Seats.{AreSeated, IsSeated, SeatView, clients_of, opening_seat, opening_seats}
 
 pub opening_clients_are : (ops : List OpLine) (n k : ℕ) → clients_of (opening_seats ops n k) ≡ clients_from ops n k

@@ -1,6 +1,6 @@
 -- A world that is reached goes on to one that is reached.
-use Rattle.std.proofs.Common.{◌≡◌, ℕ, ◌+◌, ◌≤◌, max, true, List, [], ◌∷◌, ◌++◌, map, refl, sym, ap, ◌∙◌, subst, Some, None}
-use Rattle.std.specs.Prelude.{Option, is_some, slice_get, IsTrue}
+use Rattle.std.proofs.Common.{◌≡◌, ℕ, ◌+◌, true, List, [], ◌∷◌, ◌++◌, map, refl, sym, ap, ◌∙◌, subst, Some, None}
+use Rattle.std.specs.Prelude.{Option, slice_get}
 use Rattle.std.specs.List.{remove}
 use Rattle.far_base.specs.PlanView.{PlanView}
 use Rattle.far_base.specs.declared.event.Event.{Event}
@@ -16,10 +16,9 @@ use Rattle.far_model.proofs.Runs.{ceiling_append, is_run_append, is_run_with_app
 use Rattle.far_model.specs.Controller.{ControllerState, ready, tick}
 use Rattle.far_model.specs.Events.{Keeping, delivers, does_order, handled, happens, happens_with, is_enabled, restarts, ticks}
 use Rattle.far_model.specs.Parties.{Turn}
-use Rattle.far_model.specs.Replies.{IsRunWith, KeepersAnswer, KeptEvent, ceiling_after, ceiling_with, run_with}
-use Rattle.far_model.specs.Runs.{IsRun, run}
+use Rattle.far_model.specs.Replies.{KeepersAnswer, KeptEvent, ceiling_after, ceiling_with, run_with}
 use Rattle.far_model.specs.State.{State, opening}
-use Rattle.far_world.specs.Reached.{IsReached, IsRunOf, Ran, event_of, ran_to, scene_in}
+use Rattle.far_world.specs.Reached.{IsReached, Ran, event_of, ran_to, scene_in}
 use Rattle.far_world.specs.Scene.{Scene, Tells, told_by}
 use Rattle.far_world.specs.Steps.{IsAfter}
 

@@ -1,8 +1,7 @@
 -- What the turns of parties take for granted, wherever an event is ready.
-use Rattle.std.proofs.Common.{◌≡◌, ℕ, zero, suc, ◌+◌, ◌<◌, ◌≤◌, ◌^◌, ◌⊎◌, ◌≢◌, inl, inr, Bool, true, false, cond, List, [], ◌∷◌, length, get_or, set, replicate, refl, sym, ap, ◌∙◌, subst, Some, None, arith}
-use Rattle.std.proofs.lemmas.List.{get_or-set_same, get_or-set_other, length-replicate, length-set}
-use Rattle.std.proofs.lemmas.Bool.{cases_eq}
-use Rattle.std.specs.Prelude.{Option, is_some, nat_eq, slice_get, slice_index}
+use Rattle.std.proofs.Common.{◌≡◌, ℕ, zero, suc, ◌+◌, ◌<◌, ◌≤◌, ◌^◌, Bool, true, false, cond, List, [], ◌∷◌, length, get_or, set, replicate, refl, sym, ap, ◌∙◌, subst, Some, None, arith}
+use Rattle.std.proofs.lemmas.List.{length-replicate}
+use Rattle.std.specs.Prelude.{Option, nat_eq, slice_get, slice_index}
 use Rattle.far_base.specs.PlanView.{PlanView}
 use Rattle.far_base.specs.declared.event.Event.{Event}
 use Rattle.far_base.specs.declared.event.Event.TheVariants.{Send, Deliver, Tick, Recover, Restart, Order as OrderOf}
@@ -16,19 +15,16 @@ use Rattle.far_base.specs.declared.plan.Order.{Order}
 use Rattle.far_base.specs.declared.plan.Order.TheVariants.{Admit, Evict, Snap, Stop, StopAt}
 use Rattle.far_base.specs.declared.plan.PassKind.{PassKind}
 use Rattle.far_base.specs.declared.record.Record.{Record}
-use Rattle.far_invariants.specs.Addressed.{AreAddressed, ComesTo, ComesToClient}
-use Rattle.far_invariants.specs.Room.{HasRoom as HasRoomToRun}
+use Rattle.far_invariants.specs.Addressed.{AreAddressed, ComesTo}
 use Rattle.far_invariants.specs.Sizes.{PartsFit}
-use Rattle.far_model.specs.Clients.{script, script_from}
+use Rattle.far_model.specs.Clients.{script_from}
 use Rattle.far_model.specs.Controller.{ControllerState, ready, tick}
 use Rattle.far_model.specs.Events.{Keeping, delivers, does_order, handled, happens_with, restarts, ticks}
-use Rattle.far_model.specs.Members.{Among}
 use Rattle.far_model.specs.Parties.{Turn}
-use Rattle.far_model.specs.Passes.{one_more, pass_count, pass_kind, pass_place, with_pass}
+use Rattle.far_model.specs.Passes.{one_more, pass_count, pass_kind, pass_place}
 use Rattle.far_model.specs.Replies.{KeptEvent, run_with}
 use Rattle.far_model.specs.Snapshots.{Job}
 use Rattle.far_model.specs.State.{State, client_at, opening}
-use Rattle.far_model.specs.Work.{work_bound, work_left}
 use Rattle.far_world.specs.Ready.{IsReady}
 use Rattle.far_world.specs.Scene.{Scene, Tells, told_by}
 use Rattle.far_world.specs.Standing.{Stands}
@@ -128,7 +124,7 @@ script_short op client (line ∷ ops) = go (nat_eq line.client client) (script_s
     go true h = omega (arith, h)
     go false h = omega (arith, h)
 
-servers_there : (servers : List (List Record)) (count : ℕ) (o : Option (List (List Record))) → servers ≡ told_by count o → (Tells o → length servers ≡ count) → length servers ≡ count
+pub servers_there : (servers : List (List Record)) (count : ℕ) (o : Option (List (List Record))) → servers ≡ told_by count o → (Tells o → length servers ≡ count) → length servers ≡ count
 servers_there servers count None shown told = ap length shown ∙ length-replicate count []
 servers_there servers count (Some all) shown told = told refl
 

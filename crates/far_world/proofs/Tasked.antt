@@ -11,13 +11,13 @@ use Rattle.far_base.specs.declared.party.Party.TheVariants.{Switch}
 use Rattle.far_base.specs.declared.plan.Config.{Config}
 use Rattle.far_base.specs.declared.record.Record.{Record}
 use Rattle.far_base.specs.declared.slot_state.Due.TheVariants.{Peeked, Removed}
-use Rattle.far_model.specs.Controller.{ControllerState, acked_state, acknowledged, client_told, completes, controller_takes, drop_want_if, evict_held, evict_key, evicts, evicts_on, job_turn, makes_room, numbered_records, part_came, peek_answered, removal_answered, round_stored, round_turn, same_came, same_part, snapshot_begun, snapshot_stores, start_recovery, start_snapshot, store_answered, store_outs, stores_of, tick, tick_free, tick_room, tick_want, tick_wants, to_clients, to_servers, told_round, top_told, wanted, first_want_dropped, with_state}
+use Rattle.far_model.specs.Controller.{ControllerState, acked_state, acknowledged, client_told, completes, controller_takes, drop_want_if, evict_held, evicts_on, job_turn, makes_room, numbered_records, part_came, peek_answered, removal_answered, round_stored, round_turn, same_came, same_part, snapshot_begun, snapshot_stores, store_answered, store_outs, stores_of, tick_free, tick_room, tick_want, tick_wants, to_clients, to_servers, told_round, top_told, with_state}
 use Rattle.far_model.specs.Evictions.{Eviction, Next, Send, Store, Done, Kept, after_peek, after_removal, first_place, has_key, holds_key, is_admitting, is_free, key_in, state_at, victim, waits_for, waits_job, after_store, removing}
 use Rattle.far_model.specs.Parties.{Turn, idle, to_party}
 use Rattle.far_model.specs.Rounds.{Round, asks_tops, has_told, telling_at}
 use Rattle.far_model.specs.Snapshots.{Job, completed, has_begun, has_part, is_whole, part_reads, view_in, view_items, view_records, with_part, with_same}
 use Rattle.far_world.proofs.Scripts.{take_on}
-use Rattle.far_world.specs.Tasks.{FitsConfig, IsSmall, MayDo, task_turn, tick_turn}
+use Rattle.far_world.specs.Tasks.{FitsConfig, IsSmall, task_turn, tick_turn}
 use Rattle.far_world.specs.declared.tasks.Task.{Task}
 use Rattle.far_world.specs.declared.tasks.Task.TheVariants.{Take, Tick, Recover, Want, Evict, Snap}
 
@@ -236,7 +236,7 @@ items_on xs i x less h =
     let n : 0 + length (take i xs) ≡ i = omega (arith, length-take i xs) in
     rw (take_on xs i x h, items_append 0 (take i xs) (x ∷ []), n) refl
 
-there_is : {A : Type 0} → (xs : List A) (i : ℕ) (x : A) → i < length xs → x ≡ get_or xs i x → slice_get xs i ≡ Some x
+pub there_is : {A : Type 0} → (xs : List A) (i : ℕ) (x : A) → i < length xs → x ≡ get_or xs i x → slice_get xs i ≡ Some x
 there_is [] i x less e = absurd (omega arith)
 there_is (y ∷ ys) zero x less e = ap Some (sym e)
 there_is (y ∷ ys) (suc i) x less e = there_is ys i x (omega arith) e

@@ -12,13 +12,13 @@ use Rattle.far_invariants.specs.Room.{HasRoom}
 use Rattle.far_invariants.specs.Sound.{IsSound}
 use Rattle.far_model.specs.Answered.{AllAnswered}
 use Rattle.far_model.specs.Events.{Keeping, happens, happens_with, is_enabled}
-use Rattle.far_model.specs.Replies.{AnswersInKind, IsRunWith, KeepersAnswer, KeptEvent, ceiling_after, ceiling_with, run_with}
+use Rattle.far_model.specs.Replies.{AnswersInKind, IsRunWith, kept_events, KeepersAnswer, KeptEvent, ceiling_after, ceiling_with, run_with}
 use Rattle.far_model.specs.Runs.{IsRun, is_finished, is_quiet, next_event, run}
 use Rattle.far_model.specs.State.{State, opening}
 use Rattle.far_model.specs.Work.{work_left}
 use Rattle.far_world.proofs.Choosing.{next_enabled}
 use Rattle.far_world.proofs.Reaching.{answers_there, elsewhere, enabled_there, happens_elsewhere, reached_on, run_to}
-use Rattle.far_world.proofs.Standings.{counts_fit}
+use Rattle.far_world.proofs.Standings.{counts_fit, servers_there}
 use Rattle.far_world.specs.Reached.{HasStepped, IsReached, IsRunOf, Ran, event_of, ran_to, scene_in, with_count}
 use Rattle.far_world.specs.Ready.{IsOpened, IsReady}
 use Rattle.far_world.specs.Scene.{KeeperView, Scene, Tells, told_by, with_faults}
@@ -42,8 +42,12 @@ opens plan before scene events valid o none = record {
 
 -- ---- what holds of the run that leads to a world
 
-abbrev pub RoutesRun : Type 0
-RoutesRun = (plan : PlanView) (events : List Event) → IsRun plan (opening plan) events → IsRouted plan (run plan (opening plan) events)
+-- a run by the rule of a server is a run with keepers
+abbrev pub KeptRuns : Type 0
+KeptRuns = (plan : PlanView) (events : List Event) → IsRun plan (opening plan) events → IsRunWith plan 0 (opening plan) (kept_events plan (opening plan) events)
+
+abbrev pub KeptStates : Type 0
+KeptStates = (plan : PlanView) (events : List Event) → run_with plan (opening plan) (kept_events plan (opening plan) events) ≡ run plan (opening plan) events
 
 abbrev pub StepsCount : Type 0
 StepsCount = (plan : PlanView) (k : Keeping) (s : State) (e : Event) → is_enabled plan s e ≡ true → (happens_with plan k s e).steps ≡ s.steps + 1
@@ -66,10 +70,13 @@ module _ (w : Ran) (h : IsReached w) where
   pub room_there : AlwaysWith (λ plan ceiling s. HasRoom plan ceiling s) → HasRoom w.plan w.keeper.ceiling (run_to w h)
   room_there law = subst (λ (c : ℕ). HasRoom w.plan c (run_to w h)) (sym h.ceiling) (law w.plan h.kept h.valid h.way)
 
-  servers_are : Tells w.keeper.records → RoutesRun → length w.state.servers ≡ w.plan.config.servers
-  servers_are tells law =
+  pub servers_are : Tells w.keeper.records → AlwaysWith (λ plan ceiling s. IsSound plan s) → KeptRuns → KeptStates → length w.state.servers ≡ w.plan.config.servers
+  servers_are tells sound runs states =
       let d = h.told tells in
-      ap (λ (z : State). length z.servers) d.is ∙ (law w.plan w.events d.enabled).servers
+      ap (λ (z : State). length z.servers) (d.is ∙ sym (states w.plan w.events)) ∙ (sound w.plan (kept_events w.plan (opening w.plan) w.events) h.valid (runs w.plan w.events d.enabled)).routed.servers
+
+  pub all_servers : AlwaysWith (λ plan ceiling s. IsSound plan s) → KeptRuns → KeptStates → length w.state.servers ≡ w.plan.config.servers
+  all_servers sound runs states = servers_there w.state.servers w.plan.config.servers w.keeper.records h.records (λ tells. servers_are tells sound runs states)
 
   pub few_messages : AlwaysWith (λ plan ceiling s. HasRoom plan ceiling s) → length w.state.bag < 2 ^ 28
   few_messages law =
@@ -90,8 +97,8 @@ module _ (w : Ran) (h : IsReached w) where
   answered_where law done =
       subst (λ (z : State). AllAnswered w.plan z) (sym h.state_is) (law w.plan h.kept h.valid h.way (sym (ap (λ (z : State). is_finished w.plan z) h.state_is) ∙ done))
 
-  pub ready : (e : Event) → is_enabled w.plan w.state e ≡ true → AlwaysWith (λ plan ceiling s. IsSound plan s) → AlwaysWith (λ plan ceiling s. AreAddressed plan s) → AlwaysWith (λ plan ceiling s. HasRoom plan ceiling s) → RoutesRun → IsReady e (scene_in w)
-  ready e able sound addressed room routes = record {
+  pub ready : (e : Event) → is_enabled w.plan w.state e ≡ true → AlwaysWith (λ plan ceiling s. IsSound plan s) → AlwaysWith (λ plan ceiling s. AreAddressed plan s) → AlwaysWith (λ plan ceiling s. HasRoom plan ceiling s) → KeptRuns → KeptStates → IsReady e (scene_in w)
+  ready e able sound addressed room runs states = record {
     enabled = able;
     valid = h.valid;
     there = run_to w h;
@@ -100,7 +107,7 @@ module _ (w : Ran) (h : IsReached w) where
     addressed = addressed w.plan h.kept h.valid h.way;
     room = room_there room;
     records = h.records;
-    told = λ tells. servers_are tells routes;
+    told = λ tells. servers_are tells sound runs states;
     servers = h.servers;
     passes = counts_fit w.plan h.kept;
   }

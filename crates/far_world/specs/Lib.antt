@@ -11,3 +11,6 @@ pub mod Standing
 pub mod Happening
 pub mod Listing
 pub mod Choices
+pub mod KeptList
+pub mod LastAnswer
+pub mod Turning

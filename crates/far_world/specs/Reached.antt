@@ -31,7 +31,8 @@ pub record IsRunOf (plan : PlanView) (events : List Event) (state : State) : Typ
   pub enabled : IsRun plan (opening plan) events
   pub is : state ≡ run plan (opening plan) events
 
--- the world is reached: its state is that of a run of its plan by its events, with what the keepers answered in kind and
+-- the world is reached: its state is that of a run of its plan by its events, with what the keepers answered in kind
+-- and
 -- not above their ceiling. Where the keeper tells its records it is the run by the rule of a server, and they are the
 -- servers' records
 pub record IsReached (w : Ran) : Type 0 where

@@ -19,7 +19,12 @@ pub record KeeperView : Type 0 where
   pub faults : ℕ
 
 abbrev pub keeper_of : Option (List (List Record)) → ℕ → ℕ → ℕ → KeeperView
-keeper_of records servers ceiling faults = record { records = records; servers = servers; ceiling = ceiling; faults = faults }
+keeper_of records servers ceiling faults = record {
+  records = records;
+  servers = servers;
+  ceiling = ceiling;
+  faults = faults;
+}
 
 -- a plan, the state of its parties, and what the keeper has
 pub record Scene : Type 0 where
@@ -36,12 +41,16 @@ abbrev pub told_by : ℕ → Option (List (List Record)) → List (List Record)
 told_by servers None = replicate servers []
 told_by servers (Some all) = all
 
+abbrev pub with_state : Scene → State → Scene
+with_state scene state = record scene { state = state }
+
 -- as before, but for the count of the keeper's faults
 abbrev pub with_faults : Scene → ℕ → Scene
 with_faults scene faults = record scene { keeper = record scene.keeper { faults = faults } }
 
 -- the parties together
-abbrev pub scene_of : PlanView → SwitchView → Bool → List SeatView → ControllerView → List Message → List ℕ → ℕ → RoomyLog → KeeperView → Scene
+abbrev pub scene_of : PlanView → SwitchView → Bool → List SeatView → ControllerView → List Message → List ℕ → ℕ
+    → RoomyLog → KeeperView → Scene
 scene_of plan switch running seats controller bag passes done log keeper = record {
   plan = plan;
   state = record {
@@ -60,7 +69,8 @@ scene_of plan switch running seats controller bag passes done log keeper = recor
 }
 
 -- the clients and the controller are those of the plan
-pub record IsFit (plan : PlanView) (seats : List SeatView) (controller : ControllerView) (passes : List ℕ) : Type 0 where
+pub record IsFit (plan : PlanView) (seats : List SeatView) (controller : ControllerView)
+    (passes : List ℕ) : Type 0 where
   pub seated : AreSeated plan.ops seats
   pub config : controller.config ≡ plan.config
   pub counts : length passes ≡ PASS_KINDS

@@ -39,7 +39,12 @@ open_line (Some o) = Some o.1
 
 -- a client with a script of which so many were sent
 abbrev pub seat_of : ClientView → ℕ → List ℕ → SeatView
-seat_of client sent script = record { number = client.number; line = open_line client.waits; state = state_of (drop sent script) client }
+seat_of client sent script = record {
+  number = client.number;
+  line = open_line client.waits;
+  state = state_of
+      (drop sent script) client;
+}
 
 -- what may come to a client that waits for this: an answer is of its open operation
 abbrev pub IsExpected : Option ℕ → Packet → Type 0
@@ -61,9 +66,11 @@ abbrev pub opening_seats : List OpLine → ℕ → ℕ → List SeatView
 opening_seats ops n zero = []
 opening_seats ops n (suc more) = opening_seat ops n ∷ opening_seats ops (suc n) more
 
--- the client took this turn of the machine: it has its state, what it sends went behind what was to be sent, and its notes
+-- the client took this turn of the machine: it has its state, what it sends went behind what was to be sent, and its
+-- notes
 -- behind the notes
-pub record TakesTurn (ops : List OpLine) (old : SeatView) (before : TurnParts) (turn : Turn ClientState) (new : SeatView) (after : TurnParts) : Type 0 where
+pub record TakesTurn (ops : List OpLine) (old : SeatView) (before : TurnParts) (turn : Turn ClientState)
+    (new : SeatView) (after : TurnParts) : Type 0 where
   pub state : new.state ≡ turn.state
   pub seated : IsSeated ops old.number new
   pub out : after.out.items ≡ before.out.items ++ turn.out

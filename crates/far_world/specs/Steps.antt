@@ -1,5 +1,5 @@
 -- What one step does.
-use Rattle.std.specs.Prelude.{◌≡◌, ℕ, ◌+◌, ◌≤◌, List, ◌++◌, map, length, is_some}
+use Rattle.std.specs.Prelude.{◌≡◌, ◌+◌, ◌≤◌, List, ◌++◌, map, is_some}
 use Rattle.far_base.specs.declared.event.Event.{Event}
 use Rattle.far_base.specs.declared.log.LogEntry.{LogEntry}
 use Rattle.far_history.specs.RoomyLog.{RoomyLog}

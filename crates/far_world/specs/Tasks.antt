@@ -1,7 +1,8 @@
 -- What the controller is asked in one step.
-use Rattle.std.specs.Prelude.{◌≡◌, ℕ, ◌+◌, ◌≤◌, true, false, length, is_some, Option, None, Some}
+use Rattle.std.specs.Prelude.{◌≡◌, ◌+◌, ◌≤◌, true, false, length, is_some, Option, None, Some}
 use Rattle.far_base.specs.declared.plan.Config.{Config}
-use Rattle.far_model.specs.Controller.{ControllerState, controller_takes, evict_key, start_recovery, start_snapshot, tick, wanted}
+use Rattle.far_model.specs.Controller.{ControllerState, controller_takes, evict_key, start_recovery, start_snapshot}
+use Rattle.far_model.specs.Controller.{tick, wanted}
 use Rattle.far_model.specs.Parties.{Turn, idle}
 use Rattle.far_model.specs.Snapshots.{Job}
 use Rattle.far_world.specs.declared.tasks.Task.{Task}

@@ -20,7 +20,8 @@ impl Model for Bag {
     ghost invariant = { λ b. AreSpellings b.wires.messages };
 }
 
-ghost use Rattle.std.specs.Prelude.{◌≡◌, ◌+◌, ◌-◌, ◌^◌, ◌<◌, ◌≤◌, ◌++◌, ◌&&◌, not, [], ◌∷◌, length, remove, take, slice_get, Some, OnOk};
+ghost use Rattle.std.specs.Prelude.{◌≡◌, ◌+◌, ◌-◌, ◌^◌, ◌<◌, ◌≤◌, ◌++◌, ◌&&◌, not, [], ◌∷◌, length, remove, take};
+ghost use Rattle.std.specs.Prelude.{slice_get, Some, OnOk};
 ghost use Rattle.std.specs.List.{count_by, list_any};
 ghost use Rattle.far_base.specs.declared.packet.Message.{Message};
 ghost use Rattle.far_model.specs.Events.{can_deliver, is_switch};

@@ -1,4 +1,5 @@
-ghost use Rattle.std.specs.Prelude.{◌≡◌, ◌+◌, ◌<◌, ◌≤◌, ◌^◌, ◌++◌, length, false, true, Some, is_some, slice_get, slice_index_or, nat_eq, ◌&&◌, if◌then◌else◌};
+ghost use Rattle.std.specs.Prelude.{◌≡◌, ◌+◌, ◌<◌, ◌≤◌, ◌^◌, ◌++◌, length, false, true, Some, is_some, slice_get};
+ghost use Rattle.std.specs.Prelude.{slice_index_or, nat_eq, ◌&&◌, if◌then◌else◌};
 ghost use Rattle.std.specs.List.{count_by, list_all};
 ghost use Rattle.far_base.specs.Limits.{IsPlan, due_number};
 ghost use Rattle.far_base.specs.declared.event.Event.{Event};
@@ -192,7 +193,7 @@ impl<S: Switch + Drop, K: Keeper + Drop> Parties<S, K> {
     }
 
     /// The event other than an order at this place among those that can happen, counted from 0.
-    fn choice_at(&self, place: u32) -> Event
+    pub(crate) fn choice_at(&self, place: u32) -> Event
         requires clients { length self.now.state.clients < 2 ^ 16 }
         requires few { length self.now.state.bag < 2 ^ 28 }
         ensures { result ≡ slice_index_or (events.choices self.now.state) place Event.Tick }

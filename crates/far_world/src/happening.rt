@@ -1,10 +1,11 @@
-ghost use Rattle.std.specs.Prelude.{◌≡◌, ◌+◌, ◌<◌, ◌≤◌, ℕ, Some, OnOk, OnErr, IsErrOf, IsOkUnless, is_some, length, slice_get, true};
+ghost use Rattle.std.specs.Prelude.{◌≡◌, ◌+◌, ◌<◌, ◌≤◌, ℕ, Some, OnOk, OnErr, IsErrOf, IsOkUnless, is_some, length};
+ghost use Rattle.std.specs.Prelude.{slice_get, true};
 ghost use Rattle.far_base.specs.declared.packet.Message.{Message};
 ghost use Rattle.far_model.specs.Events.{does_order, handled, happens_with, is_enabled, is_order_enabled, is_possible};
 ghost use Rattle.far_outside.specs.Faults.{Rose};
 ghost use Rattle.far_world.specs.Happening.{IsCalm, IsForOthers};
 ghost use Rattle.far_world.specs.Ready.{IsReady};
-ghost use Rattle.far_world.specs.Scene.{with_faults};
+ghost use Rattle.far_world.specs.Scene.{with_faults, with_state};
 ghost use Rattle.far_world.specs.Standing.{Stands, unasked};
 ghost use Rattle.far_world.specs.Serving.{IsServed};
 ghost use Rattle.far_world.specs.Steps.{IsAfter};
@@ -30,7 +31,8 @@ impl<S: Switch + Drop, K: Keeper + Drop> Parties<S, K> {
     fn obey(&mut self, order: &Order) -> Result<(), Memory>
         requires stands { Stands self.old }
         requires possible { is_possible self.old.state order.now ≡ true }
-        ensures ok { OnOk result (self.new ≡ record self.old { state = does_order self.old.plan self.old.state (Some order.now) }) }
+        ensures ok { OnOk result (self.new ≡ with_state self.old
+            (does_order self.old.plan self.old.state (Some order.now))) }
         ensures err { OnErr result (self.new ≡ self.old) }
     {
         match *order {
@@ -46,7 +48,9 @@ impl<S: Switch + Drop, K: Keeper + Drop> Parties<S, K> {
     fn do_order(&mut self) -> Result<(), Memory>
         requires stands { Stands self.old }
         requires enabled { is_order_enabled self.old.plan self.old.state ≡ true }
-        ensures ok { OnOk result (self.new ≡ record self.old { state = record (does_order self.old.plan self.old.state (slice_get self.old.plan.orders self.old.state.done)) { done = self.old.state.done + 1 } }) }
+        ensures ok { OnOk result (self.new ≡ with_state self.old
+            (record (does_order self.old.plan self.old.state
+            (slice_get self.old.plan.orders self.old.state.done)) { done = self.old.state.done + 1 })) }
         ensures err { OnErr result (self.new ≡ self.old) }
     {
         let order = order_at(&self.plan, self.done);
@@ -60,7 +64,8 @@ impl<S: Switch + Drop, K: Keeper + Drop> Parties<S, K> {
         requires stands { Stands self.old }
         requires comes { ComesTo self.old.plan self.old.state to packet.now }
         requires others { IsForOthers to }
-        ensures ok { OnOk result (self.new ≡ record self.old { state = handled self.old.plan unasked self.old.state self.old.state.bag to packet.now }) }
+        ensures ok { OnOk result (self.new ≡ with_state self.old
+            (handled self.old.plan unasked self.old.state self.old.state.bag to packet.now)) }
         ensures err { OnErr result (self.new ≡ self.old) }
     {
         match to {
@@ -74,9 +79,11 @@ impl<S: Switch + Drop, K: Keeper + Drop> Parties<S, K> {
     /// The message at the place is taken out and handled by a party other than a server.
     fn deliver_to_others(&mut self, place: u32, to: Party, packet: &Packet) -> Result<(), Memory>
         requires stands { Stands self.old }
-        requires there { (from : Party) × (slice_get self.old.state.bag place ≡ Some (record { from = from; to = to; packet = packet.now })) }
+        requires there { (from : Party) × (slice_get self.old.state.bag place ≡ Some
+            (record { from = from; to = to; packet = packet.now })) }
         requires others { IsForOthers to }
-        ensures ok { OnOk result (self.new ≡ record self.old { state = happens_with self.old.plan unasked self.old.state (Event.Deliver place) }) }
+        ensures ok { OnOk result (self.new ≡ with_state self.old
+            (happens_with self.old.plan unasked self.old.state (Event.Deliver place))) }
         ensures err { OnErr result (self.new ≡ self.old) }
     {
         self.handle(to, packet)?;
@@ -92,7 +99,8 @@ impl<S: Switch + Drop, K: Keeper + Drop> Parties<S, K> {
         packet: &Packet,
     ) -> Result<(), StepFault>
         requires stands { Stands self.old }
-        requires there { (from : Party) × (slice_get self.old.state.bag place ≡ Some (record { from = from; to = Party.Server number; packet = packet.now })) }
+        requires there { (from : Party) × (slice_get self.old.state.bag place ≡ Some
+            (record { from = from; to = Party.Server number; packet = packet.now })) }
         ensures ok { OnOk result (IsAfter self.old (Event.Deliver place) self.new) }
         ensures err { OnErr result (self.new ≡ with_faults self.old self.new.keeper.faults) }
         ensures later { self.old.keeper.faults ≤ self.new.keeper.faults }
@@ -108,7 +116,8 @@ impl<S: Switch + Drop, K: Keeper + Drop> Parties<S, K> {
         requires stands { Stands self.old }
         requires enabled { is_enabled self.old.plan self.old.state event ≡ true }
         requires calm { IsCalm event }
-        ensures ok { OnOk result (self.new ≡ record self.old { state = happens_with self.old.plan unasked self.old.state event }) }
+        ensures ok { OnOk result (self.new ≡ with_state self.old
+            (happens_with self.old.plan unasked self.old.state event)) }
         ensures err { OnErr result (self.new ≡ self.old) }
     {
         match event {
@@ -123,7 +132,8 @@ impl<S: Switch + Drop, K: Keeper + Drop> Parties<S, K> {
     /// The message at the place is taken out and handled by a party other than a server.
     fn deliver_calmly(&mut self, place: u32, to: Party, packet: &Packet) -> Result<(), StepFault>
         requires stands { Stands self.old }
-        requires there { (from : Party) × (slice_get self.old.state.bag place ≡ Some (record { from = from; to = to; packet = packet.now })) }
+        requires there { (from : Party) × (slice_get self.old.state.bag place ≡ Some
+            (record { from = from; to = to; packet = packet.now })) }
         requires others { IsForOthers to }
         ensures ok { OnOk result (IsAfter self.old (Event.Deliver place) self.new) }
         ensures err { OnErr result (self.new ≡ self.old) }

@@ -5,6 +5,7 @@
 mod bag;
 mod choice;
 mod happening;
+mod kept_list;
 mod listing;
 mod opening;
 mod parties;
@@ -13,6 +14,7 @@ mod seat;
 mod serving;
 mod tasks;
 mod turn;
+mod turning;
 mod world;
 
 pub use world::{Halted, World};

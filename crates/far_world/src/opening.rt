@@ -10,6 +10,7 @@ ghost use Rattle.far_world.specs.Seats.{opening_seats};
 use crate::bag::Bag;
 use crate::parties::Parties;
 use crate::seat::{Seat, config_of, ops_of};
+use crate::turn::Turn;
 use crate::world::Halted;
 use controller_core::Controller;
 use far_base::{Memory, Plan};
@@ -45,14 +46,16 @@ impl<S: Switch + Drop, K: Keeper + Drop> Parties<S, K> {
     ) -> Result<Parties<S, K>, Halted<S, K>>
         requires valid { IsPlan plan }
         requires view { S.seen switch ≡ opening_view plan.config 1 0 }
-        ensures ok { IfOk result (λ parties. IsOpened plan (keeper_of (K.records keeper) (K.server_count keeper) (K.ceiling keeper) (K.fault_count keeper)) parties) }
+        ensures ok { IfOk result (λ parties. IsOpened plan (keeper_of (K.records keeper) (K.server_count keeper)
+            (K.ceiling keeper) (K.fault_count keeper)) parties) }
         ensures err_plan { IfErr result (λ halted. halted.plan ≡ plan) }
         ensures err_switch { IfErr result (λ halted. halted.switch ≡ switch) }
         ensures err_records { IfErr result (λ halted. K.records halted.keeper ≡ K.records keeper) }
         ensures err_servers { IfErr result (λ halted. K.server_count halted.keeper ≡ K.server_count keeper) }
         ensures err_ceiling { IfErr result (λ halted. K.ceiling halted.keeper ≡ K.ceiling keeper) }
         ensures err_later { IfErr result (λ halted. K.fault_count keeper ≤ K.fault_count halted.keeper) }
-        ensures err_cause { IfErr result (λ halted. halted.cause ≡ StepFault.KeeperFailed → Rose (K.fault_count keeper) (K.fault_count halted.keeper)) }
+        ensures err_cause { IfErr result (λ halted. halted.cause ≡ StepFault.KeeperFailed → Rose
+            (K.fault_count keeper) (K.fault_count halted.keeper)) }
     {
         let mut keeper = keeper;
         let cause = StepFault::Memory;
@@ -95,6 +98,7 @@ impl<S: Switch + Drop, K: Keeper + Drop> Parties<S, K> {
             passes: [0; 9],
             done: 0,
             log: Log::new(alloc),
+            turn: Turn::new(alloc),
             alloc,
         })
     }

@@ -4,7 +4,7 @@ use crate::passing::{count_pass, pass_through};
 use crate::seat::{Seat, config_of, ops_of};
 use crate::serving::recipient;
 use crate::tasks::{Task, do_task};
-use crate::turn::{make_room, post};
+use crate::turn::{Turn, make_room, post};
 use controller_core::Controller;
 use far_base::{LogEntry, Memory, Packet, Party, Plan};
 use far_history::Log;
@@ -28,6 +28,8 @@ pub(crate) struct Parties<S: Switch + Drop, K: Keeper + Drop> {
     pub passes: [u64; 9],
     pub done: u32,
     pub log: Log,
+    /// What the party whose turn it is sends and notes.
+    pub turn: Turn,
     pub alloc: Global,
 }
 
@@ -36,12 +38,15 @@ impl<S: Switch + Drop, K: Keeper + Drop> Model for Parties<S, K> {
 
     ghost Value = { Scene };
 
-    ghost view = { λ p. scene_of p.plan (S.seen p.switch) p.running p.clients.items p.controller p.bag.messages p.passes p.done p.log (keeper_of (K.records p.keeper) (K.server_count p.keeper) (K.ceiling p.keeper) (K.fault_count p.keeper)) };
+    ghost view = { λ p. scene_of p.plan (S.seen p.switch) p.running p.clients.items p.controller p.bag.messages
+        p.passes p.done p.log
+        (keeper_of (K.records p.keeper) (K.server_count p.keeper) (K.ceiling p.keeper) (K.fault_count p.keeper)) };
 
     ghost invariant = { λ p. IsFit p.plan p.clients.items p.controller p.passes };
 }
 
-ghost use Rattle.std.specs.Prelude.{◌≡◌, ◌+◌, ◌^◌, ◌<◌, ◌≤◌, OnOk, OnErr, IsErrOf, length, slice_index, is_some, true, ℕ};
+ghost use Rattle.std.specs.Prelude.{◌≡◌, ◌+◌, ◌^◌, ◌<◌, ◌≤◌, OnOk, OnErr, IsErrOf, length, slice_index, is_some};
+ghost use Rattle.std.specs.Prelude.{true, ℕ};
 ghost use Rattle.far_base.specs.declared.party.Party.TheVariants.{Switch as TheSwitch};
 ghost use Rattle.far_base.specs.declared.plan.TheConstants.{OP_LIMIT};
 ghost use Rattle.far_model.specs.Clients.{client_takes};
@@ -54,7 +59,7 @@ ghost use Rattle.far_model.specs.State.{client_at};
 ghost use Rattle.far_world.specs.Seats.{IsExpected};
 ghost use Rattle.far_model.specs.Pass.{pass};
 ghost use Rattle.far_outside.specs.Faults.{Rose};
-ghost use Rattle.far_world.specs.Scene.{with_faults};
+ghost use Rattle.far_world.specs.Scene.{with_faults, with_state};
 ghost use Rattle.far_world.specs.Serving.{IsRestarted, IsServed};
 ghost use Rattle.server_keeper.specs.Step.{IsForServer};
 
@@ -65,14 +70,19 @@ impl<S: Switch + Drop, K: Keeper + Drop> Parties<S, K> {
         requires ops { length self.old.plan.ops ≤ OP_LIMIT }
         requires steps { self.old.state.steps < 2 ^ 28 }
         requires few { length self.old.state.bag < 2 ^ 28 }
-        ensures ok { OnOk result (self.new ≡ record self.old { state = sends self.old.plan self.old.state number }) }
+        ensures ok { OnOk result (self.new ≡ with_state self.old (sends self.old.plan self.old.state number)) }
         ensures err { OnErr result (self.new ≡ self.old) }
     {
-        let mut turn = make_room(self.alloc, &mut self.bag, &mut self.log, 1, 1)?;
+        make_room(&mut self.bag, &mut self.log, &mut self.turn, 1, 1)?;
         let ops = ops_of(&self.plan);
         let seat = &mut self.clients[number as usize];
-        seat.send_next(ops, &mut turn)?;
-        post(&mut self.bag, &mut self.log, Party::Client(number), &turn);
+        seat.send_next(ops, &mut self.turn)?;
+        post(
+            &mut self.bag,
+            &mut self.log,
+            Party::Client(number),
+            &self.turn,
+        );
         Ok(())
     }
 
@@ -83,14 +93,21 @@ impl<S: Switch + Drop, K: Keeper + Drop> Parties<S, K> {
         requires preserved { length (client_at self.old.state number).preserved < 2 ^ 28 }
         requires steps { self.old.state.steps < 2 ^ 28 }
         requires few { length self.old.state.bag < 2 ^ 28 }
-        ensures ok { OnOk result (self.new ≡ record self.old { state = client_turn self.old.state number self.old.state.bag (client_takes self.old.plan.ops number (client_at self.old.state number) packet.now) }) }
+        ensures ok { OnOk result (self.new ≡ with_state self.old
+            (client_turn self.old.state number self.old.state.bag (client_takes self.old.plan.ops number
+            (client_at self.old.state number) packet.now))) }
         ensures err { OnErr result (self.new ≡ self.old) }
     {
         let most = self.clients[number as usize].most_sent();
-        let mut turn = make_room(self.alloc, &mut self.bag, &mut self.log, most as u32, 1)?;
+        make_room(&mut self.bag, &mut self.log, &mut self.turn, most as u32, 1)?;
         let seat = &mut self.clients[number as usize];
-        seat.take(packet, &mut turn);
-        post(&mut self.bag, &mut self.log, Party::Client(number), &turn);
+        seat.take(packet, &mut self.turn);
+        post(
+            &mut self.bag,
+            &mut self.log,
+            Party::Client(number),
+            &self.turn,
+        );
         Ok(())
     }
 
@@ -100,13 +117,14 @@ impl<S: Switch + Drop, K: Keeper + Drop> Parties<S, K> {
         requires steps { self.old.state.steps < 2 ^ 28 }
         requires few { length self.old.state.bag < 2 ^ 28 }
         requires passes { (i : ℕ) → slice_index self.old.state.passes i < 2 ^ 28 }
-        ensures ok { OnOk result (self.new ≡ record self.old { state = switch_turn self.old.state self.old.state.bag packet.now (pass self.old.state.switch packet.now) }) }
+        ensures ok { OnOk result (self.new ≡ with_state self.old
+            (switch_turn self.old.state self.old.state.bag packet.now (pass self.old.state.switch packet.now))) }
         ensures err { OnErr result (self.new ≡ self.old) }
     {
-        let mut turn = make_room(self.alloc, &mut self.bag, &mut self.log, 2, 2)?;
-        pass_through(&mut self.switch, packet, &mut turn);
+        make_room(&mut self.bag, &mut self.log, &mut self.turn, 2, 2)?;
+        pass_through(&mut self.switch, packet, &mut self.turn);
         count_pass(&mut self.passes, packet);
-        post(&mut self.bag, &mut self.log, Party::Switch, &turn);
+        post(&mut self.bag, &mut self.log, Party::Switch, &self.turn);
         Ok(())
     }
 
@@ -122,12 +140,17 @@ impl<S: Switch + Drop, K: Keeper + Drop> Parties<S, K> {
         ensures later { self.old.keeper.faults ≤ self.new.keeper.faults }
         ensures cause { IsErrOf result StepFault.KeeperFailed → Rose self.old.keeper.faults self.new.keeper.faults }
     {
-        let mut turn = make_room(self.alloc, &mut self.bag, &mut self.log, 1, 0).map_err(
+        make_room(&mut self.bag, &mut self.log, &mut self.turn, 1, 0).map_err(
             |_| StepFault::Memory,
         )?;
         let reply = server_step(&mut self.keeper, number, packet)?;
-        turn.send(recipient(&reply), reply);
-        post(&mut self.bag, &mut self.log, Party::Server(number), &turn);
+        self.turn.send(recipient(&reply), reply);
+        post(
+            &mut self.bag,
+            &mut self.log,
+            Party::Server(number),
+            &self.turn,
+        );
         Ok(())
     }
 
@@ -139,21 +162,23 @@ impl<S: Switch + Drop, K: Keeper + Drop> Parties<S, K> {
         requires fits { FitsConfig self.old.plan.config self.old.state.controller }
         requires steps { self.old.state.steps < 2 ^ 28 }
         requires few { length self.old.state.bag < 2 ^ 28 }
-        ensures ok { OnOk result (self.new ≡ record self.old { state = controller_turn self.old.state self.old.state.bag (task_turn self.old.plan.config self.old.state.controller task.now) }) }
+        ensures ok { OnOk result (self.new ≡ with_state self.old
+            (controller_turn self.old.state self.old.state.bag
+            (task_turn self.old.plan.config self.old.state.controller task.now))) }
         ensures err { OnErr result (self.new ≡ self.old) }
     {
         let config = config_of(&self.plan);
         let most_out = config.clients + config.servers + config.slots + 1;
         let most_notes = config.slots as usize + 1;
-        let mut turn = make_room(
-            self.alloc,
+        make_room(
             &mut self.bag,
             &mut self.log,
+            &mut self.turn,
             most_out,
             most_notes,
         )?;
-        do_task(&mut self.controller, task, &mut turn)?;
-        post(&mut self.bag, &mut self.log, Party::Controller, &turn);
+        do_task(&mut self.controller, task, &mut self.turn)?;
+        post(&mut self.bag, &mut self.log, Party::Controller, &self.turn);
         Ok(())
     }
 
@@ -173,10 +198,10 @@ impl<S: Switch + Drop, K: Keeper + Drop> Parties<S, K> {
     {
         let servers = config_of(&self.plan).servers;
         let records = list_all(self.alloc, &mut self.keeper, servers)?;
-        let mut turn = make_room(
-            self.alloc,
+        make_room(
             &mut self.bag,
             &mut self.log,
+            &mut self.turn,
             0,
             records.len() + 1,
         )
@@ -184,8 +209,8 @@ impl<S: Switch + Drop, K: Keeper + Drop> Parties<S, K> {
         let (epoch, counter) = self.controller.restart();
         self.switch.reset(epoch, counter);
         self.running = true;
-        note_recovered(counter, &records, &mut turn);
-        post(&mut self.bag, &mut self.log, Party::Controller, &turn);
+        note_recovered(counter, &records, &mut self.turn);
+        post(&mut self.bag, &mut self.log, Party::Controller, &self.turn);
         Ok(())
     }
 
@@ -194,14 +219,14 @@ impl<S: Switch + Drop, K: Keeper + Drop> Parties<S, K> {
         requires config { self.old.state.switch.config ≡ self.old.plan.config }
         requires steps { self.old.state.steps < 2 ^ 28 }
         requires few { length self.old.state.bag < 2 ^ 28 }
-        ensures ok { OnOk result (self.new ≡ record self.old { state = stops self.old.plan self.old.state }) }
+        ensures ok { OnOk result (self.new ≡ with_state self.old (stops self.old.plan self.old.state)) }
         ensures err { OnErr result (self.new ≡ self.old) }
     {
-        let mut turn = make_room(self.alloc, &mut self.bag, &mut self.log, 0, 1)?;
-        turn.note(LogEntry::Stopped);
+        make_room(&mut self.bag, &mut self.log, &mut self.turn, 0, 1)?;
+        self.turn.note(LogEntry::Stopped);
         self.switch.reset(0, 0);
         self.running = false;
-        post(&mut self.bag, &mut self.log, Party::Switch, &turn);
+        post(&mut self.bag, &mut self.log, Party::Switch, &self.turn);
         Ok(())
     }
 }

@@ -1,4 +1,5 @@
-ghost use Rattle.std.specs.Prelude.{◌≡◌, ℕ, ◌+◌, ◌^◌, ◌<◌, ◌≤◌, ◌++◌, slice_index, vec_len, vec_capacity, IfSome, option_to_list};
+ghost use Rattle.std.specs.Prelude.{◌≡◌, ℕ, ◌+◌, ◌^◌, ◌<◌, ◌≤◌, ◌++◌, slice_index, vec_len, vec_capacity, IfSome};
+ghost use Rattle.std.specs.Prelude.{option_to_list};
 ghost use Rattle.far_model.specs.Pass as model;
 ghost use Rattle.far_model.specs.Pass.{emitted_note, emitted_notes};
 ghost use Rattle.far_model.specs.Passes as counts;
@@ -95,8 +96,10 @@ pub(crate) fn pass_through<S: Switch>(switch: &mut S, packet: &Packet, turn: &mu
     requires out { vec_len turn.old.out + 2 ≤ vec_capacity turn.old.out }
     requires notes { vec_len turn.old.notes + 2 ≤ vec_capacity turn.old.notes }
     ensures view { S.seen switch.new ≡ (model.pass (S.seen switch.old) packet.now).view }
-    ensures out { turn.new.out.items ≡ turn.old.out.items ++ model.passed_out (model.pass (S.seen switch.old) packet.now) }
-    ensures notes { turn.new.notes.items ≡ turn.old.notes.items ++ model.pass_notes packet.now (model.pass (S.seen switch.old) packet.now) }
+    ensures out { turn.new.out.items ≡ turn.old.out.items ++ model.passed_out (model.pass
+        (S.seen switch.old) packet.now) }
+    ensures notes { turn.new.notes.items ≡ turn.old.notes.items ++ model.pass_notes packet.now (model.pass
+        (S.seen switch.old) packet.now) }
 {
     let emit = switch.pass(packet);
     turn.send_if(&emit.first);

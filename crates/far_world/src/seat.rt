@@ -1,6 +1,6 @@
 use crate::turn::Turn;
 use client_records::Client;
-use far_base::{Config, LogEntry, Memory, OpLine, Packet, Party, Plan};
+use far_base::{Config, LogEntry, Memory, OpLine, Packet, Party, Plan, Record};
 use std::alloc::Global;
 use std::marker::Model;
 
@@ -20,7 +20,8 @@ impl Model for Seat {
     ghost view = { λ s. seat_of s.client s.next s.script.items };
 }
 
-ghost use Rattle.std.specs.Prelude.{◌≡◌, ◌+◌, ◌^◌, ◌<◌, ◌≤◌, ◌++◌, List, [], ◌∷◌, length, max, vec_len, vec_capacity, Some, IsTrue, IfOk, OnOk, OnErr};
+ghost use Rattle.std.specs.Prelude.{◌≡◌, ◌+◌, ◌^◌, ◌<◌, ◌≤◌, ◌++◌, List, [], ◌∷◌, length, max, vec_len, vec_capacity};
+ghost use Rattle.std.specs.Prelude.{Some, IsTrue, IfOk, OnOk, OnErr};
 ghost use Rattle.far_base.specs.declared.plan.TheConstants.{OP_LIMIT};
 ghost use Rattle.far_model.specs.Clients as model;
 ghost use Rattle.far_model.specs.Events as events;
@@ -83,6 +84,13 @@ impl Seat {
         self.client.is_idle() && self.next >= self.script.len()
     }
 
+    /// The records that the client preserves, in their order.
+    pub(crate) fn preserved(&self) -> &[Record]
+        ensures { result.now ≡ self.now.state.preserved }
+    {
+        self.client.preserved()
+    }
+
     /// How many packets the client sends at most for the packet that comes to it.
     pub(crate) fn most_sent(&self) -> usize
         ensures { result ≡ max (length self.now.state.preserved) 1 }
@@ -97,7 +105,8 @@ impl Seat {
         requires can { IsTrue (events.can_send self.old.state) }
         requires out { vec_len turn.old.out < vec_capacity turn.old.out }
         requires notes { vec_len turn.old.notes < vec_capacity turn.old.notes }
-        ensures ok { OnOk result (TakesTurn ops.now self.old turn.old (events.next_sent ops.now self.old.number self.old.state self.old.state.left) self.new turn.new) }
+        ensures ok { OnOk result (TakesTurn ops.now self.old turn.old
+            (events.next_sent ops.now self.old.number self.old.state self.old.state.left) self.new turn.new) }
         ensures err { OnErr result (self.new ≡ self.old) }
     {
         let op = self.script[self.next];
@@ -113,7 +122,8 @@ impl Seat {
     fn take_answer(&mut self, packet: &Packet, turn: &mut Turn)
         requires answer { IsAnswerOf self.old.state.waits packet.now }
         requires notes { vec_len turn.old.notes < vec_capacity turn.old.notes }
-        ensures { (ops : List OpLine) → IsSeated ops self.old.number self.old → TakesTurn ops self.old turn.old (model.client_takes ops self.old.number self.old.state packet.now) self.new turn.new }
+        ensures { (ops : List OpLine) → IsSeated ops self.old.number self.old → TakesTurn ops self.old turn.old
+            (model.client_takes ops self.old.number self.old.state packet.now) self.new turn.new }
     {
         let op = self.client.answered(packet);
         turn.note(LogEntry::Answered { op });
@@ -123,7 +133,8 @@ impl Seat {
     fn take_ask(&self, round: u32, turn: &mut Turn)
         requires few { length self.now.state.preserved < 2 ^ 32 }
         requires out { vec_len turn.old.out + max (length self.now.state.preserved) 1 ≤ vec_capacity turn.old.out }
-        ensures out { turn.new.out.items ≡ turn.old.out.items ++ model.tells round self.now.number self.now.state.preserved }
+        ensures out { turn.new.out.items ≡ turn.old.out.items
+            ++ model.tells round self.now.number self.now.state.preserved }
         ensures notes { turn.new.notes ≡ turn.old.notes }
     {
         for i in 0..self.most_sent() {
@@ -138,7 +149,8 @@ impl Seat {
         requires few { length self.old.state.preserved < 2 ^ 32 }
         requires out { vec_len turn.old.out + max (length self.old.state.preserved) 1 ≤ vec_capacity turn.old.out }
         requires notes { vec_len turn.old.notes < vec_capacity turn.old.notes }
-        ensures { (ops : List OpLine) → IsSeated ops self.old.number self.old → TakesTurn ops self.old turn.old (model.client_takes ops self.old.number self.old.state packet.now) self.new turn.new }
+        ensures { (ops : List OpLine) → IsSeated ops self.old.number self.old → TakesTurn ops self.old turn.old
+            (model.client_takes ops self.old.number self.old.state packet.now) self.new turn.new }
     {
         match *packet {
             Packet::GetAns { .. } => self.take_answer(packet, turn),

@@ -101,12 +101,16 @@ fn note_done(note: Note, last: &Snapshot, turn: &mut Turn)
 /// The controller takes a packet. At an error nothing is changed.
 fn take(controller: &mut Controller, packet: &Packet, turn: &mut Turn) -> Result<(), Memory>
     requires room { HasRoom controller.old.state }
-    requires small { IsSmall controller.old.config (task_turn controller.old.config controller.old.state (Task.Take packet.now)) }
+    requires small { IsSmall controller.old.config (task_turn controller.old.config controller.old.state
+        (Task.Take packet.now)) }
     requires slots { controller.old.config.slots < 2 ^ 32 }
     requires notes { vec_len turn.old.notes + controller.old.config.slots + 1 ≤ vec_capacity turn.old.notes }
-    ensures state { OnOk result (controller.new ≡ at_state controller.old (task_turn controller.old.config controller.old.state (Task.Take packet.now)).state) }
-    ensures out { OnOk result (turn.new.out.items ≡ turn.old.out.items ++ (task_turn controller.old.config controller.old.state (Task.Take packet.now)).out) }
-    ensures notes { OnOk result (turn.new.notes.items ≡ turn.old.notes.items ++ (task_turn controller.old.config controller.old.state (Task.Take packet.now)).notes) }
+    ensures state { OnOk result (controller.new ≡ at_state controller.old
+        (task_turn controller.old.config controller.old.state (Task.Take packet.now)).state) }
+    ensures out { OnOk result (turn.new.out.items ≡ turn.old.out.items ++
+        (task_turn controller.old.config controller.old.state (Task.Take packet.now)).out) }
+    ensures notes { OnOk result (turn.new.notes.items ≡ turn.old.notes.items ++
+        (task_turn controller.old.config controller.old.state (Task.Take packet.now)).notes) }
     ensures err { OnErr result (controller.new ≡ controller.old) }
 {
     let note = controller.deliver(packet, &mut turn.out)?;
@@ -125,9 +129,12 @@ pub(crate) fn do_task(
     requires small { IsSmall controller.old.config (task_turn controller.old.config controller.old.state task.now) }
     requires slots { controller.old.config.slots < 2 ^ 32 }
     requires notes { vec_len turn.old.notes + controller.old.config.slots + 1 ≤ vec_capacity turn.old.notes }
-    ensures state { OnOk result (controller.new ≡ at_state controller.old (task_turn controller.old.config controller.old.state task.now).state) }
-    ensures out { OnOk result (turn.new.out.items ≡ turn.old.out.items ++ (task_turn controller.old.config controller.old.state task.now).out) }
-    ensures notes { OnOk result (turn.new.notes.items ≡ turn.old.notes.items ++ (task_turn controller.old.config controller.old.state task.now).notes) }
+    ensures state { OnOk result (controller.new ≡ at_state controller.old
+        (task_turn controller.old.config controller.old.state task.now).state) }
+    ensures out { OnOk result (turn.new.out.items ≡ turn.old.out.items ++
+        (task_turn controller.old.config controller.old.state task.now).out) }
+    ensures notes { OnOk result (turn.new.notes.items ≡ turn.old.notes.items ++
+        (task_turn controller.old.config controller.old.state task.now).notes) }
     ensures err { OnErr result (controller.new ≡ controller.old) }
 {
     match *task {

@@ -1,4 +1,5 @@
-ghost use Rattle.std.specs.Prelude.{◌≡◌, ◌+◌, ◌-◌, ◌^◌, ◌<◌, ◌≤◌, ◌++◌, [], ◌∷◌, length, vec_len, vec_capacity, option_to_list, IfOk, OnOk};
+ghost use Rattle.std.specs.Prelude.{◌≡◌, ◌+◌, ◌-◌, ◌^◌, ◌<◌, ◌≤◌, ◌++◌, [], ◌∷◌, length, vec_len, vec_capacity};
+ghost use Rattle.std.specs.Prelude.{option_to_list, OnOk};
 ghost use Rattle.far_model.specs.Parties.{messages_from};
 ghost use Rattle.far_model.specs.Pass.{outs_of};
 ghost use Rattle.far_world.specs.Steps.{Logs};
@@ -16,16 +17,26 @@ pub(crate) struct Turn {
 }
 
 impl Turn {
-    /// Nothing, with room for so many packets and notes.
-    fn with_room(alloc: Global, out: usize, notes: usize) -> Result<Self, Memory>
-        ensures out { IfOk result (λ turn. turn.out.items ≡ []) }
-        ensures notes { IfOk result (λ turn. turn.notes.items ≡ []) }
-        ensures out_room { IfOk result (λ turn. out ≤ vec_capacity turn.out) }
-        ensures notes_room { IfOk result (λ turn. notes ≤ vec_capacity turn.notes) }
+    /// Nothing.
+    pub(crate) fn new(alloc: Global) -> Self {
+        Turn {
+            out: Vec::new(alloc),
+            notes: Vec::new(alloc),
+        }
+    }
+
+    /// Nothing again, with room for so many packets and notes.
+    fn begin(&mut self, out: usize, notes: usize) -> Result<(), Memory>
+        ensures out { OnOk result (self.new.out.items ≡ []) }
+        ensures notes { OnOk result (self.new.notes.items ≡ []) }
+        ensures out_room { OnOk result (out ≤ vec_capacity self.new.out) }
+        ensures notes_room { OnOk result (notes ≤ vec_capacity self.new.notes) }
     {
-        let out = Vec::with_capacity(alloc, out)?;
-        let notes = Vec::with_capacity(alloc, notes)?;
-        Ok(Turn { out, notes })
+        self.out.clear();
+        self.notes.clear();
+        self.out.reserve(out)?;
+        self.notes.reserve(notes)?;
+        Ok(())
     }
 
     /// Sends a packet, for which there is room.
@@ -75,27 +86,27 @@ impl Turn {
     }
 }
 
-/// Makes room for so many packets and notes, and gives a turn of none.
+/// Makes room for so many packets and notes, and begins a turn of none.
 pub(crate) fn make_room(
-    alloc: Global,
     bag: &mut Bag,
     log: &mut Log,
+    turn: &mut Turn,
     out: u32,
     notes: usize,
-) -> Result<Turn, Memory>
+) -> Result<(), Memory>
     ensures messages { bag.new.messages ≡ bag.old.messages }
     ensures steps { log.new.steps ≡ log.old.steps }
     ensures lines { log.new.lines ≡ log.old.lines }
     ensures bag_room { OnOk result (out ≤ bag.new.room) }
     ensures log_room { OnOk result (notes ≤ log.new.room) }
-    ensures turn { IfOk result (λ turn. turn.out.items ≡ []) }
-    ensures turn_notes { IfOk result (λ turn. turn.notes.items ≡ []) }
-    ensures out_room { IfOk result (λ turn. out ≤ vec_capacity turn.out) }
-    ensures notes_room { IfOk result (λ turn. notes ≤ vec_capacity turn.notes) }
+    ensures turn { OnOk result (turn.new.out.items ≡ []) }
+    ensures turn_notes { OnOk result (turn.new.notes.items ≡ []) }
+    ensures out_room { OnOk result (out ≤ vec_capacity turn.new.out) }
+    ensures notes_room { OnOk result (notes ≤ vec_capacity turn.new.notes) }
 {
     bag.reserve(out)?;
     log.reserve(notes)?;
-    Turn::with_room(alloc, out as usize, notes)
+    turn.begin(out as usize, notes)
 }
 
 /// Puts what a party sends behind the other messages.

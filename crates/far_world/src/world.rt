@@ -1,5 +1,5 @@
 use crate::parties::Parties;
-use far_base::{Event, LogEntry, Plan};
+use far_base::{Event, KeptItem, LogEntry, Plan};
 use far_history::Log;
 use far_outside::Keeper;
 use server_keeper::StepFault;
@@ -36,14 +36,34 @@ impl<S: Switch + Drop, K: Keeper + Drop> Model for World<S, K> {
     ghost invariant = { λ w. IsReached (ran_to w.parties w.events.items) };
 }
 
-ghost use Rattle.std.specs.Prelude.{◌≡◌, ◌≤◌, ◌++◌, [], ◌∷◌, false, true, IfOk, IfErr, OnErr, IsErrOf};
+ghost use Rattle.std.specs.Prelude.{◌≡◌, ◌≤◌, ◌++◌, [], ◌∷◌, false, true, IfOk, IfErr, OnErr, IsErrOf, OnOk};
 ghost use Rattle.far_base.specs.Limits.{IsPlan};
 ghost use Rattle.far_model.specs.Answered.{AllAnswered};
 ghost use Rattle.far_model.specs.Runs as runs;
 ghost use Rattle.far_model.specs.View.{opening_view};
 ghost use Rattle.far_outside.specs.Faults.{Rose};
-ghost use Rattle.far_world.specs.Reached.{HasStarted, HasStepped, IsReached, with_count};
+ghost use Rattle.far_world.specs.KeptList.{ListsKept};
+ghost use Rattle.far_world.specs.LastAnswer.{last_answer, last_answered};
+ghost use Rattle.far_world.specs.Reached.{HasStarted, HasStepped, IsReached, scene_in, with_count};
 ghost use Rattle.far_world.specs.Scene.{keeper_of};
+
+/// The operation that is answered in the last line, where this is of the last step.
+fn last_answer(log: &Log) -> Option<u32>
+    ensures { result ≡ last_answer log.now.steps log.now.lines }
+{
+    let lines = log.lines();
+    if lines.is_empty() {
+        return None;
+    }
+    let line = &lines[lines.len() - 1];
+    if line.moment != log.steps() {
+        return None;
+    }
+    match line.entry {
+        LogEntry::Answered { op } => Some(op),
+        _ => None,
+    }
+}
 
 impl<S: Switch + Drop, K: Keeper + Drop> World<S, K> {
     /// The world of the plan, in which nothing has happened yet. The switch is the opening one of the plan's config, in
@@ -57,14 +77,16 @@ impl<S: Switch + Drop, K: Keeper + Drop> World<S, K> {
     ) -> Result<World<S, K>, Halted<S, K>>
         requires valid { IsPlan plan }
         requires view { S.seen switch ≡ opening_view plan.config 1 0 }
-        ensures started { IfOk result (λ world. HasStarted plan (keeper_of (K.records keeper) (K.server_count keeper) (K.ceiling keeper) (K.fault_count keeper)) world) }
+        ensures started { IfOk result (λ world. HasStarted plan (keeper_of (K.records keeper)
+            (K.server_count keeper) (K.ceiling keeper) (K.fault_count keeper)) world) }
         ensures err_plan { IfErr result (λ halted. halted.plan ≡ plan) }
         ensures err_switch { IfErr result (λ halted. halted.switch ≡ switch) }
         ensures err_records { IfErr result (λ halted. K.records halted.keeper ≡ K.records keeper) }
         ensures err_servers { IfErr result (λ halted. K.server_count halted.keeper ≡ K.server_count keeper) }
         ensures err_ceiling { IfErr result (λ halted. K.ceiling halted.keeper ≡ K.ceiling keeper) }
         ensures err_later { IfErr result (λ halted. K.fault_count keeper ≤ K.fault_count halted.keeper) }
-        ensures err_cause { IfErr result (λ halted. halted.cause ≡ StepFault.KeeperFailed → Rose (K.fault_count keeper) (K.fault_count halted.keeper)) }
+        ensures err_cause { IfErr result (λ halted. halted.cause ≡ StepFault.KeeperFailed → Rose
+            (K.fault_count keeper) (K.fault_count halted.keeper)) }
     {
         let parties = Parties::opened(alloc, plan, switch, keeper)?;
         Ok(World {
@@ -86,7 +108,7 @@ impl<S: Switch + Drop, K: Keeper + Drop> World<S, K> {
         flight_laws::runs_are_sound();
         flight_laws::runs_have_room();
         flight_laws::runs_end();
-        flight_laws::routes();
+        flight_laws::runs_are_kept_runs();
         flight_laws::steps_counted();
         let event = self.parties.next_event(pick);
         if self.events.reserve(1).is_err() {
@@ -125,6 +147,28 @@ impl<S: Switch + Drop, K: Keeper + Drop> World<S, K> {
         self.parties.is_finished()
     }
 
+    /// Appends what would be kept if the switch lost its memory now: the last completed snapshot by slot, the servers'
+    /// records by server and key, and the clients' preserved records. `KeeperFailed` only where the keeper's count of
+    /// faults rose in this call. After an error the list is as before. The world is as before but for that count.
+    pub fn kept(&mut self, into: &mut Vec<KeptItem>) -> Result<(), StepFault>
+        ensures listed { OnOk result (ListsKept (scene_in self.old) into.old.items into.new.items) }
+        ensures same { OnErr result (into.new.items ≡ into.old.items) }
+        ensures world { self.new ≡ with_count self.old self.new.keeper.faults }
+        ensures later { self.old.keeper.faults ≤ self.new.keeper.faults }
+        ensures cause { IsErrOf result StepFault.KeeperFailed → Rose self.old.keeper.faults self.new.keeper.faults }
+    {
+        flight_laws::runs_are_sound();
+        flight_laws::runs_are_kept_runs();
+        self.parties.kept(into)
+    }
+
+    /// The operation that the last step answered, where it answered one.
+    pub fn last_answered(&self) -> Option<u32>
+        ensures { result ≡ last_answered self.now.state }
+    {
+        last_answer(&self.parties.log)
+    }
+
     /// What the world is to do.
     pub fn plan(&self) -> &Plan
         ensures { result.now ≡ self.now.plan }
@@ -138,7 +182,8 @@ impl<S: Switch + Drop, K: Keeper + Drop> World<S, K> {
         ensures steps { result.now.steps ≡ self.now.state.steps }
         ensures lines { result.now.lines ≡ self.now.state.log }
         ensures reached { IsReached self.now }
-        ensures answered { runs.is_finished self.now.plan self.now.state ≡ true → AllAnswered self.now.plan self.now.state }
+        ensures answered { runs.is_finished self.now.plan self.now.state ≡ true
+            → AllAnswered self.now.plan self.now.state }
     {
         flight_laws::runs_are_logged();
         &self.parties.log
@@ -151,7 +196,8 @@ impl<S: Switch + Drop, K: Keeper + Drop> World<S, K> {
         ensures steps { result.2.steps ≡ self.state.steps }
         ensures lines { result.2.lines ≡ self.state.log }
         ensures switch { S.seen result.3 ≡ self.state.switch }
-        ensures keeper { keeper_of (K.records result.4) (K.server_count result.4) (K.ceiling result.4) (K.fault_count result.4) ≡ self.keeper }
+        ensures keeper { keeper_of (K.records result.4) (K.server_count result.4) (K.ceiling result.4)
+            (K.fault_count result.4) ≡ self.keeper }
         ensures reached { IsReached self }
     {
         let World { parties, events } = self;
@@ -166,6 +212,7 @@ impl<S: Switch + Drop, K: Keeper + Drop> World<S, K> {
             passes: _,
             done: _,
             log,
+            turn: _turn,
             alloc: _alloc,
         } = parties;
         (plan, events, log, switch, keeper)

@@ -1,4 +1,5 @@
 -- Evictions begin, and wants are admitted.
+use Rattle.far_invariants.specs.Slots.{IsGiven, is_admission_of, admits_under, admission_count}
 use Rattle.std.proofs.Common.{◌≡◌, ◌≢◌, ℕ, ◌+◌, ◌≤◌, ◌<◌, ◌⊎◌, inl, inr, Bool, true, false, true≢false, cond, ◌&&◌, nat_eq, eq-eqb, ne_eqb, List, [], ◌∷◌, ◌++◌, length, length-set, drop, set, refl, sym, ap, ◌∙◌, subst, arith}
 use Rattle.std.specs.Prelude.{Option, None, Some, is_some}
 use Rattle.std.specs.List.{count_by}
@@ -17,7 +18,6 @@ use Rattle.far_model.specs.Controller.{ControllerState, admits_want, evict_held,
 use Rattle.far_model.specs.Events.{controller_turn}
 use Rattle.far_model.specs.Evictions.{Eviction, begins_eviction, first_place, hand_after, has_key, holds_key, is_free, is_held, key_in, state_at, tag_in, victim}
 use Rattle.far_invariants.specs.Flights.{Subject, OfAdmission, OfEviction, OfJob, subject}
-use Rattle.far_invariants.specs.Invariants.{IsGiven, admission_count, admits_under, is_admission_of}
 use Rattle.far_model.specs.Members.{Among}
 use Rattle.far_model.specs.Parties.{Turn, to_party}
 use Rattle.far_model.specs.Rounds.{Round}

@@ -18,23 +18,14 @@ use Rattle.far_model.specs.Events.{Keeping, all_listed, all_records, delivers, d
 use Rattle.far_model.specs.KeyedRecords.{found}
 use Rattle.far_model.specs.Members.{Among}
 use Rattle.far_model.specs.Parties.{Turn}
-use Rattle.far_model.specs.Runs.{IsRun, run}
+use Rattle.far_model.specs.Runs.{IsRun}
 use Rattle.far_model.specs.Servers.{record_of, server_keeps, server_reply, top_of, stored, put_number}
 use Rattle.far_model.specs.State.{State, opening, records_at}
 use Rattle.far_model.proofs.Members.{among_append, each_from_among}
 use Rattle.flight_laws.proofs.Lists.{get_or-replicate_default}
 use Rattle.flight_laws.proofs.WithoutCache.{answers_in_kind}
 use Rattle.far_invariants.proofs.Records.{by_key_among, found_below, kept_among}
-use Rattle.far_invariants.specs.DrawnNumbers.{NumbersAreDrawn}
-use Rattle.far_invariants.specs.Sizes.{DrawsWithSteps}
-use Rattle.flight_laws.proofs.Drawing.{opens_in, step_in}
-use Rattle.flight_laws.proofs.Rooms.{opens_draws, run_draws}
-use Rattle.flight_laws.proofs.Steps.{run_spends, sound_opens}
-use Rattle.far_base.specs.Limits.{IsPlan}
-use Rattle.far_model.proofs.Runs.{kept_events_run}
-use Rattle.far_model.specs.Replies.{kept_events, IsRunWith, KeptEvent, run_with, ceiling_at, ceiling_by, ceiling_after, ReplyWithin, AnswersWithin, AnswersMessageWithin, RepliesWithin, KeepersAnswer}
-use Rattle.far_model.specs.Work.{work_bound, work_left}
-use Rattle.flight_laws.proofs.Bounds.{opening_within}
+use Rattle.far_model.specs.Replies.{kept_events, IsRunWith, ceiling_at, ceiling_by, ceiling_after, ReplyWithin, AnswersWithin, AnswersMessageWithin, RepliesWithin, KeepersAnswer}
 
 -- no server has a number above the ceiling
 abbrev pub ServersWithin : ℕ → State → Type 0
@@ -142,32 +133,8 @@ servers_stay plan ceiling s (OrderOf j) h = go (slice_get plan.orders j)
 pub opening_within_none : (plan : PlanView) → ServersWithin 0 (opening plan)
 opening_within_none plan n r a = absurd (subst (λ l. Among r l) (get_or-replicate_default plan.config.servers n []) a)
 
--- the greatest number put so far, in a run
-abbrev pub ceiling_along : PlanView → ℕ → State → List Event → ℕ
-ceiling_along plan ceiling s [] = ceiling
-ceiling_along plan ceiling s (e ∷ es) = ceiling_along plan (ceiling_after s e ceiling) (happens plan s e) es
-
-drawn_along : (plan : PlanView) (ceiling : ℕ) (s : State) (events : List Event) → ServersWithin ceiling s → NumbersAreDrawn ceiling s → NumbersAreDrawn (ceiling_along plan ceiling s events) (run plan s events)
-drawn_along plan ceiling s [] h n = n
-drawn_along plan ceiling s (e ∷ es) h n = drawn_along plan (ceiling_after s e ceiling) (happens plan s e) es (servers_stay plan ceiling s e h) (step_in plan (keeping_of s e) ceiling s e n (answers_within ceiling s e h))
-
-pub numbers_are_drawn : (plan : PlanView) (events : List Event) → NumbersAreDrawn (ceiling_along plan 0 (opening plan) events) (run plan (opening plan) events)
-numbers_are_drawn plan events = drawn_along plan 0 (opening plan) events (opening_within_none plan) (opens_in plan)
-
-pub drawn_by_some : (plan : PlanView) (events : List Event) → (ceiling : ℕ) × NumbersAreDrawn ceiling (run plan (opening plan) events)
-drawn_by_some plan events = (ceiling_along plan 0 (opening plan) events, numbers_are_drawn plan events)
-
 -- a run is one with keepers that answer by the rule of a server
 pub kept_is_run : (plan : PlanView) (ceiling : ℕ) (s : State) (events : List Event) → ServersWithin ceiling s → IsRun plan s events → IsRunWith plan ceiling s (kept_events plan s events)
 kept_is_run plan ceiling s [] h r = tt
 kept_is_run plan ceiling s (e ∷ es) h r =
     (r.0, answers_within ceiling s e h, kept_is_run plan (ceiling_after s e ceiling) (happens plan s e) es (servers_stay plan ceiling s e h) r.1)
-
-pub draws_with_steps : (plan : PlanView) (events : List Event) → IsRun plan (opening plan) events → DrawsWithSteps (run plan (opening plan) events)
-draws_with_steps plan events r = subst DrawsWithSteps (kept_events_run plan (opening plan) events) (run_draws plan 0 (opening plan) (kept_events plan (opening plan) events) (opens_draws plan) (kept_is_run plan 0 (opening plan) events (opening_within_none plan) r))
-
-pub steps_spend : (plan : PlanView) (events : List Event) → IsPlan plan → IsRun plan (opening plan) events → (run plan (opening plan) events).steps + work_left plan (run plan (opening plan) events) ≤ work_bound plan
-steps_spend plan events valid r =
-    let spends = run_spends plan 0 (opening plan) (kept_events plan (opening plan) events) valid (sound_opens plan) (kept_is_run plan 0 (opening plan) events (opening_within_none plan) r) in
-    let bound = opening_within plan in
-    subst (λ (t : State). t.steps + work_left plan t ≤ work_bound plan) (kept_events_run plan (opening plan) events) (omega (arith, spends, bound))

@@ -1,4 +1,5 @@
 -- What the controller does with a packet keeps what is in flight: admissions, evictions and wants.
+use Rattle.far_invariants.specs.Slots.{IsGiven, is_admission_of, admits_under, admission_count}
 use Rattle.std.proofs.Common.{◌≡◌, ◌≢◌, ℕ, ◌≤◌, ◌<◌, ◌⊎◌, inl, inr, Bool, true, false, true≢false, cond, ◌&&◌, nat_eq, eq-eqb, ne_eqb, List, [], ◌∷◌, ◌++◌, append-nil, length, length-set, refl, sym, ap, ◌∙◌, subst, arith}
 use Rattle.std.specs.Prelude.{Option, None, Some, is_some}
 use Rattle.std.specs.List.{count_by}
@@ -18,7 +19,6 @@ use Rattle.far_model.specs.Controller.{ControllerState, acked_state, acknowledge
 use Rattle.far_model.specs.Events.{controller_turn, is_switch}
 use Rattle.far_model.specs.Evictions.{Eviction, is_admitting, is_free, key_in, state_at}
 use Rattle.far_invariants.specs.Flights.{Subject, OfRound, OfNone, subject}
-use Rattle.far_invariants.specs.Invariants.{IsGiven, admission_count, admits_under, is_admission_of}
 use Rattle.far_model.specs.Members.{Among}
 use Rattle.far_model.specs.Parties.{Turn, idle, messages_from}
 use Rattle.far_model.specs.Rounds.{Round}
@@ -214,9 +214,6 @@ module _ (plan : PlanView) (s : State) (h : Inv plan s) (rest : List Message) (f
       by : (j ≡ i) ⊎ (j ≡ i → ⊥) → IsGiven k t (state_at s.controller.slots j)
       by (inl e) = subst (λ n. IsGiven k t (state_at s.controller.slots n)) (sym e) (subst (IsGiven k t) (sym ack_state) (subst (IsGiven k t) here (subst (λ n. IsGiven k t (state_at now.controller.slots n)) e g)))
       by (inr ne) = subst (IsGiven k t) (there j ne) g
-
-  bag_is : rest ++ [] ≡ rest
-  bag_is = append-nil rest
 
   old : (x : Message) → Among x (rest ++ []) → Among x rest
   old x a = subst (Among x) (append-nil rest) a

@@ -1,4 +1,5 @@
 -- A turn of the controller lowers the work.
+use Rattle.far_invariants.specs.Slots.{IsGiven}
 use Rattle.std.proofs.Common.{◌≡◌, ◌≢◌, ℕ, zero, suc, ◌+◌, ◌-◌, ◌*◌, ◌≤◌, ◌<◌, Bool, true, false, true≢false, cond, not, ◌&&◌, nat_eq, nat_le, nat_lt, eqb-true, eq-eqb, ne_eqb, List, [], ◌∷◌, ◌++◌, length, drop, set, refl, sym, ap, ◌∙◌, subst, arith}
 use Rattle.std.specs.Prelude.{Option, None, Some, is_some, slice_index_or, slice_set, slice_get}
 use Rattle.std.specs.List.{count_by, list_all, sum_by}
@@ -20,7 +21,6 @@ use Rattle.far_base.specs.declared.slot_state.Due.TheVariants.{Peeked, Stored as
 use Rattle.far_model.specs.Controller.{ControllerState, opening_controller, to_clients, to_servers, wanted, evicts, acked_state, acknowledged, evicts_on, peek_answered, removal_answered, start_snapshot, completes, job_turn, snapshot_begun, part_came, store_outs, round_turn, told_round, client_told, round_stored, store_answered, top_told, controller_takes, with_state, is_evicting_job, same_came, same_part, is_last_present}
 use Rattle.far_model.specs.Evictions.{Eviction, Send, Store as StoreNext, Done, Kept, is_due, is_free, is_held, is_admitting, state_at, key_in, tag_in, begins_eviction, peek_of, after_peek, after_store, after_removal, shown_item, waits_for, waits_job, storing, removing, TRIES}
 use Rattle.far_invariants.specs.Flights.{IsFor, Subject, OfOperation, OfAdmission, OfEviction, OfJob, OfSnapshot, OfRound, OfNone, subject}
-use Rattle.far_invariants.specs.Invariants.{IsGiven}
 use Rattle.far_model.specs.Members.{Among}
 use Rattle.far_model.specs.Parties.{Turn, idle, to_party, messages_from}
 use Rattle.far_model.specs.Rounds.{Round, asks_tops, has_told, telling_at}

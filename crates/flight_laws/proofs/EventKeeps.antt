@@ -1,4 +1,5 @@
 -- Every event keeps what is in flight.
+use Rattle.far_invariants.specs.Slots.{IsGiven, is_admission_of, admits_under, admission_count}
 use Rattle.std.proofs.Common.{◌≡◌, ℕ, zero, suc, ◌+◌, ◌≤◌, ◌<◌, ◌⊎◌, inl, inr, Bool, true, false, true≢false, not, ◌&&◌, ◌||◌, nat_eq, eq-eqb, ne_eqb, List, [], ◌∷◌, ◌++◌, length, replicate, refl, sym, ap, ◌∙◌, subst, arith}
 use Rattle.std.specs.Prelude.{Option, None, Some, is_some, slice_index_or}
 use Rattle.std.specs.List.{count_by, list_all, list_any}
@@ -18,17 +19,15 @@ use Rattle.far_base.specs.declared.slot_state.SlotState.TheVariants.{Free, Admit
 use Rattle.far_model.specs.Controller.{ControllerState, controller_takes, evict_key, ready, ready_in, snapshot_stores, start_recovery, start_snapshot, store_of, stores_of, tick, to_clients, wanted}
 use Rattle.far_model.specs.Events.{Keeping, can_recover, happens_with, is_switch, restarts, stops}
 use Rattle.far_model.specs.Evictions.{state_at}
-use Rattle.far_invariants.specs.Flights.{IsFor, Subject, OfOperation, OfAdmission, OfEviction, OfJob, OfSnapshot, OfRound, OfNone, subject, open_count}
-use Rattle.far_invariants.specs.Invariants.{IsGiven, admission_count, admits_under, is_admission_of}
+use Rattle.far_invariants.specs.Flights.{Subject, OfOperation, OfAdmission, OfEviction, OfJob, OfSnapshot, OfRound, OfNone, subject, IsInFlight}
 use Rattle.far_model.specs.Members.{Among}
 use Rattle.far_model.specs.Parties.{messages_from}
 use Rattle.far_model.specs.Rounds.{Round, has_told, no_telling}
 use Rattle.far_model.specs.State.{State}
 use Rattle.far_model.specs.View.{SlotView, empty_slot, opening_view, server_of, slot_at}
 use Rattle.far_model.proofs.Members.{among_append}
-use Rattle.flight_laws.proofs.Handling.{IsInFlight}
 use Rattle.flight_laws.proofs.Lists.{get_or-replicate_default}
-use Rattle.far_invariants.specs.InFlight.{AdmissionFits, AdmissionMeets, AdmissionsFly, Emptied, EpochsFit, EvictionsFly, IsAsked, IsTelling, OwnFlies, RoundFlies, RoundIs, RoundsFly, SnapshotsFly, epoch_in, is_ask, is_job_from, is_told, is_top}
+use Rattle.far_invariants.specs.InFlight.{AdmissionFits, AdmissionMeets, Emptied, OwnFlies, RoundFlies, epoch_in, is_ask, is_job_from, is_told, is_top}
 use Rattle.far_invariants.specs.Sizes.{IsSizedView}
 use Rattle.flight_laws.proofs.Counts.{count_append, count_cons, count_none, counted, counted_false, counted_true}
 use Rattle.flight_laws.proofs.Frames.{no_round}

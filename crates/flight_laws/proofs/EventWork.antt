@@ -26,7 +26,7 @@ use Rattle.far_model.specs.Clients.{ClientState, answered_record, client_takes, 
 use Rattle.far_model.specs.Controller.{ControllerState, controller_takes, evict_key, is_evicting_job, numbered_records, opening_controller, ready, ready_in, snapshot_stores, start_recovery, start_snapshot, stores_of, tick, to_clients, wanted}
 use Rattle.far_model.specs.Events.{Keeping, can_deliver_some, can_recover, can_send, client_turn, controller_turn, delivers, does_order, handled, happens_with, has_next, is_enabled, is_order_due, next_sent, reply_goes_to, restarts, server_turn, switch_turn, ticks}
 use Rattle.far_model.specs.Evictions.{Eviction, is_due, waits_for, waits_job}
-use Rattle.far_invariants.specs.Flights.{IsFor, subject}
+use Rattle.far_invariants.specs.Flights.{IsFor, subject, IsInFlight}
 use Rattle.far_model.specs.KeyedRecords.{put_record}
 use Rattle.far_model.specs.Log.{is_read}
 use Rattle.far_model.specs.Parties.{Turn, idle, messages_from}
@@ -39,7 +39,6 @@ use Rattle.far_model.specs.View.{SwitchView, is_taken, opening_view, server_of}
 use Rattle.far_model.specs.Work.{client_weight, eviction_weight, is_peeking, is_removing, message_weight, order_weight, packet_weight, round_weight, stop_weight, stopped_weight, tries_of, untaken_from, work_left}
 use Rattle.far_model.proofs.Members.{among_at, among_remove}
 use Rattle.flight_laws.proofs.Bounds.{scripts, scripts_most}
-use Rattle.flight_laws.proofs.Handling.{IsInFlight}
 use Rattle.flight_laws.proofs.Lists.{by_test, get_or-replicate_default, sum_by-set_same}
 use Rattle.flight_laws.proofs.WithoutCache.{client_within}
 use Rattle.far_invariants.specs.InFlight.{EvictionIs, EvictionsFly, OwnFlies, TriesFit, is_own}

@@ -1,4 +1,5 @@
 -- Evictions go on, end and begin, and wants are admitted: what is in flight is kept.
+use Rattle.far_invariants.specs.Slots.{IsGiven, admission_count}
 use Rattle.std.proofs.Common.{◌≡◌, ◌≢◌, ℕ, ◌≤◌, ◌<◌, ◌⊎◌, inl, inr, Bool, true, false, true≢false, ◌&&◌, nat_eq, eq-eqb, List, [], ◌∷◌, ◌++◌, append-nil, length, length-set, set, refl, sym, ap, ◌∙◌, subst, arith, le_trans}
 use Rattle.std.specs.Prelude.{None, Some}
 use Rattle.std.proofs.lemmas.Bool.{cases_eq}
@@ -19,7 +20,6 @@ use Rattle.far_model.specs.Controller.{ControllerState, with_state}
 use Rattle.far_model.specs.Events.{controller_turn}
 use Rattle.far_model.specs.Evictions.{Eviction, is_free, state_at}
 use Rattle.far_invariants.specs.Flights.{Subject, OfEviction, OfJob, OfRound, subject}
-use Rattle.far_invariants.specs.Invariants.{IsGiven, admission_count}
 use Rattle.far_model.specs.Members.{Among}
 use Rattle.far_model.specs.Parties.{Turn, idle, to_party}
 use Rattle.far_model.specs.State.{State}
@@ -37,9 +37,6 @@ use Rattle.flight_laws.proofs.Weights.{state_within}
 -- ---- a packet of another eviction changes nothing
 
 module _ (plan : PlanView) (s : State) (h : Inv plan s) (rest : List Message) (m : Message) (takes : Takes s.bag rest m) where
-  idle_turn : Turn ControllerState
-  idle_turn = idle s.controller
-
   pub dropped_keeps : of_admission (subject m.packet) ≡ false → of_snapshot (subject m.packet) ≡ false → ((e : Eviction) → s.controller.eviction ≡ Some e → is_own e (subject m.packet) ≡ false) → RoundsFly plan (controller_turn s rest (idle s.controller)) → Inv plan (controller_turn s rest (idle s.controller))
   dropped_keeps a sn strange rounds =
       let turn : Turn ControllerState = idle s.controller in

@@ -1,4 +1,5 @@
 -- What lasts where a step touches nothing of admissions, of evictions, of snapshots or of rounds.
+use Rattle.far_invariants.specs.Slots.{IsGiven, is_admission_of, admits_under, admission_count}
 use Rattle.std.proofs.Common.{◌≡◌, ℕ, ◌≤◌, ◌<◌, ◌⊎◌, inl, inr, true, false, true≢false, List, refl, sym, ap, ◌∙◌, subst, arith, le_trans}
 use Rattle.std.specs.Prelude.{Option, None, Some, slice_index_or}
 use Rattle.std.specs.List.{count_by}
@@ -12,12 +13,11 @@ use Rattle.far_model.specs.Controller.{ControllerState}
 use Rattle.far_model.specs.Events.{is_switch}
 use Rattle.far_model.specs.Evictions.{Eviction, state_at}
 use Rattle.far_invariants.specs.Flights.{Subject, OfOperation, OfAdmission, OfEviction, OfJob, OfSnapshot, OfRound, OfNone, subject}
-use Rattle.far_invariants.specs.Invariants.{IsGiven, is_admission_of, admits_under, admission_count}
 use Rattle.far_model.specs.Members.{Among}
 use Rattle.far_model.specs.Rounds.{Round}
 use Rattle.far_model.specs.State.{State}
 use Rattle.far_model.specs.View.{SwitchView, slot_at}
-use Rattle.far_invariants.specs.InFlight.{AdmissionFits, AdmissionMeets, AdmissionsFly, Emptied, EvictionIs, EvictionsFly, FitsDue, IsAsked, IsEvicted, IsTelling, OwnFlies, RoundFlies, RoundIs, RoundsFly, SnapshotsFly, is_ask, is_job_from, is_own, is_told, is_top}
+use Rattle.far_invariants.specs.InFlight.{AdmissionFits, AdmissionMeets, AdmissionsFly, Emptied, EvictionsFly, FitsDue, IsAsked, IsEvicted, IsTelling, OwnFlies, RoundFlies, RoundsFly, SnapshotsFly, is_ask, is_job_from, is_own, is_told, is_top}
 use Rattle.flight_laws.proofs.Moves.{Moves, of_admission, of_eviction, of_round, of_snapshot}
 
 -- ---- admissions

@@ -19,13 +19,13 @@ use Rattle.far_base.specs.declared.record.Record.{Record}
 use Rattle.far_model.specs.Clients.{ClientState, client_takes, closed, preserves, answered_record, line_of, request}
 use Rattle.far_model.specs.Controller.{ControllerState, controller_takes, evict_key, ready, start_recovery, start_snapshot, tick, wanted}
 use Rattle.far_model.specs.Events.{Keeping, can_send, client_turn, controller_turn, delivers, does_order, handled, happens, happens_with, has_next, is_enabled, keeping_of, next_sent, reply_goes_to, restarts, server_turn, switch_turn, ticks}
-use Rattle.far_invariants.specs.Flights.{Subject, OfOperation, OfNone, IsFor, IsRouted, OneFlightPerOperation, Travels, flights_of, is_operation, open_count, subject}
+use Rattle.far_invariants.specs.Flights.{Subject, OfOperation, OfNone, IsFor, Travels, flights_of, is_operation, open_count, subject, IsInFlight}
 use Rattle.far_model.specs.KeyedRecords.{put_record}
 use Rattle.far_model.specs.Log.{is_read}
 use Rattle.far_model.specs.Members.{Among, Each}
 use Rattle.far_model.specs.Parties.{Turn, idle, messages_from}
 use Rattle.far_model.specs.Pass.{pass, passed_out}
-use Rattle.far_model.specs.Replies.{IsRunWith, KeptEvent, RepliesAt, RepliesToMessage, run_with, AnswersInKind, ceiling_after}
+use Rattle.far_model.specs.Replies.{RepliesAt, RepliesToMessage, AnswersInKind}
 use Rattle.far_model.specs.Runs.{IsRun, run}
 use Rattle.far_model.specs.Servers.{server_keeps}
 use Rattle.far_model.specs.State.{State, client_at, clients_from, nobody, opening, records_at}
@@ -37,11 +37,6 @@ use Rattle.flight_laws.proofs.Passing.{PassSends, pass_sends}
 use Rattle.flight_laws.proofs.Ruling.{Rules, evict_rules, idle_rules, recovery_rules, snapshot_rules, takes_rules, tells_control, tick_rules}
 use Rattle.flight_laws.proofs.Sends.{Adds, IsControl, carried_adds, control_adds}
 use Rattle.flight_laws.proofs.WithoutCache.{answers_in_kind, client_within, length-clients_from}
-
--- routes and flights together
-pub record IsInFlight (plan : PlanView) (s : State) : Type 0 where
-  pub routed : IsRouted plan s
-  pub one : OneFlightPerOperation s
 
 module _ (plan : PlanView) (k : Keeping) (s : State) (h : IsInFlight plan s) (rest : List Message) where
   travels_more : (sub : Subject) (out : List Message) → Rests s rest sub → ((m : Message) → Among m out → Travels plan.config m.from m.to m.packet) → (m : Message) → Among m (rest ++ out) → Travels plan.config m.from m.to m.packet
@@ -251,11 +246,6 @@ flight_step plan k s (OrderOf j) h ans able =
     same_flights plan t (record t { done = s.done + 1 }) (order_done plan k s (slice_get plan.orders j) h) refl refl refl (order_done plan k s (slice_get plan.orders j) h).routed.switch
 
 -- ---- runs
-
-pub flight_run_with : (plan : PlanView) (ceiling : ℕ) (s : State) (events : List KeptEvent) → IsInFlight plan s → IsRunWith plan ceiling s events → IsInFlight plan (run_with plan s events)
-flight_run_with plan ceiling s [] h r = h
-flight_run_with plan ceiling s (e ∷ es) h r =
-    flight_run_with plan (ceiling_after s e.event ceiling) (happens_with plan e.keeping s e.event) es (flight_step plan e.keeping s e.event h r.1.kind r.0) r.2
 
 pub flight_run : (plan : PlanView) (s : State) (events : List Event) → IsInFlight plan s → IsRun plan s events → IsInFlight plan (run plan s events)
 flight_run plan s [] h r = h

@@ -1,5 +1,7 @@
 -- What the log keeps of operations, in every run, and that all are answered where nothing is left to do.
-use Rattle.std.proofs.Common.{◌≡◌, ◌≢◌, ℕ, zero, suc, ◌+◌, ◌-◌, ◌≤◌, ◌⊎◌, inl, inr, true, false, List, [], ◌∷◌, length, map, refl, sym, ap, ◌∙◌, subst, arith, le_trans, true≢false, eqb}
+use Rattle.far_invariants.specs.Logs.{TellsOf, IsTimely, SendsByPlan}
+use Rattle.far_invariants.specs.Flights.{IsInFlight}
+use Rattle.std.proofs.Common.{◌≡◌, ◌≢◌, ℕ, zero, suc, ◌+◌, ◌-◌, ◌≤◌, ◌⊎◌, inl, inr, true, false, List, [], ◌∷◌, length, map, refl, sym, ap, ◌∙◌, subst, arith, true≢false, eqb}
 use Rattle.std.specs.Prelude.{Option, Some, None, is_some, not, slice_index_or}
 use Rattle.std.specs.List.{list_all}
 use Rattle.std.proofs.lemmas.Bool.{and_parts}
@@ -24,11 +26,10 @@ use Rattle.far_model.specs.Runs.{is_done, is_finished}
 use Rattle.far_model.specs.State.{State, client_at, line_at, nobody, noted, now, opening}
 use Rattle.far_model.proofs.Members.{among_map_from, each_among, pairs_append}
 use Rattle.far_invariants.proofs.Noted.{IsNote, log_cases, member, note_member}
-use Rattle.far_invariants.specs.Invariants.{IsTimely, SendsByPlan, TellsOf}
 use Rattle.far_invariants.specs.Logged.{OperationsAreLogged, WasAnswered}
 use Rattle.far_invariants.specs.Notes.{ClientsAre, ClientsGoOn, EventNotes, IsOfNone, IsPassNote, OfAnswer, OfNone, OfPass, OfRestart, OfSending}
-use Rattle.far_invariants.specs.Sent.{AreSentOrLeft, HasBeenSent}
-use Rattle.flight_laws.proofs.Handling.{IsInFlight, flight_opens, flight_step}
+use Rattle.far_invariants.specs.Sent.{HasBeenSent}
+use Rattle.flight_laws.proofs.Handling.{flight_opens, flight_step}
 use Rattle.flight_laws.proofs.Noting.{event_notes}
 use Rattle.flight_laws.proofs.ScriptLaws.{in_script, opening_left, opens_client}
 use Rattle.flight_laws.proofs.Working.{step_counted}

@@ -4,7 +4,6 @@ use Rattle.std.specs.Prelude.{Some, slice_get}
 use Rattle.std.specs.List.{count_by, remove}
 use Rattle.far_base.specs.declared.packet.Message.{Message}
 use Rattle.far_base.specs.declared.packet.Out.{Out}
-use Rattle.far_base.specs.declared.packet.Packet.{Packet}
 use Rattle.far_base.specs.declared.party.Party.{Party}
 use Rattle.far_invariants.specs.Flights.{Subject, OfAdmission, OfEviction, OfJob, OfSnapshot, OfRound, subject}
 use Rattle.far_model.specs.Members.{Among}
@@ -93,6 +92,3 @@ moves_none q bag = record { news = λ x a. inl a; olds = λ x a e. a; count = λ
 -- what is sent, by its packets
 pub sent_is : (from : Party) (outs : List Out) (m : Message) → Among m (messages_from from outs) → (o : Out) × Among o outs × (m ≡ record { from = from; to = o.to; packet = o.packet })
 sent_is from outs m a = among_map_from (λ (o : Out). record { from = from; to = o.to; packet = o.packet }) m outs a
-
-pub sent_class : (q : Packet → Bool) (from : Party) (outs : List Out) → ((o : Out) → Among o outs → q o.packet ≡ false) → (m : Message) → Among m (messages_from from outs) → q m.packet ≡ false
-sent_class q from outs h m a = let p = sent_is from outs m a in ap (λ (w : Message). q w.packet) p.2 ∙ h p.0 p.1

@@ -1,5 +1,5 @@
 -- What each event notes of operations, and what it makes of the clients.
-use Rattle.std.proofs.Common.{◌≡◌, ℕ, suc, ◌+◌, ◌<◌, ◌≤◌, inl, inr, Bool, true, false, true≢false, List, [], ◌∷◌, ◌++◌, length, refl, sym, ap, ◌∙◌, subst, arith}
+use Rattle.std.proofs.Common.{◌≡◌, ℕ, suc, ◌+◌, ◌<◌, ◌≤◌, inl, Bool, true, true≢false, List, [], ◌∷◌, ◌++◌, length, refl, sym, ap, ◌∙◌, subst, arith}
 use Rattle.std.specs.Prelude.{Option, Some, None, ◌&&◌, not, nat_eq, nat_lt, is_some, slice_get, slice_index_or, slice_set}
 use Rattle.std.specs.List.{count_by, remove}
 use Rattle.std.proofs.lemmas.Bool.{and_parts}
@@ -8,7 +8,7 @@ use Rattle.far_base.specs.PlanView.{PlanView}
 use Rattle.far_base.specs.declared.event.Event.{Event}
 use Rattle.far_base.specs.declared.event.Event.TheVariants.{Send, Deliver, Tick, Recover, Restart, Order as OrderOf}
 use Rattle.far_base.specs.declared.log.LogEntry.{LogEntry}
-use Rattle.far_base.specs.declared.log.LogEntry.TheVariants.{Sent, Numbered, Emitted, Answered, Admitted, Evicted, Kept, Stopped, Recovered}
+use Rattle.far_base.specs.declared.log.LogEntry.TheVariants.{Numbered, Emitted, Answered, Admitted, Evicted, Kept, Stopped}
 use Rattle.far_base.specs.declared.packet.Message.{Message}
 use Rattle.far_base.specs.declared.packet.Out.{Out}
 use Rattle.far_base.specs.declared.packet.Packet.{Packet}
@@ -18,25 +18,25 @@ use Rattle.far_base.specs.declared.party.Party.TheVariants.{Client, Switch, Serv
 use Rattle.far_base.specs.declared.plan.Order.{Order}
 use Rattle.far_base.specs.declared.plan.Order.TheVariants.{Admit as AdmitOrder, Evict as EvictOrder, Snap as SnapOrder, Stop as StopOrder, StopAt as StopAtOrder}
 use Rattle.far_base.specs.declared.record.Record.{Record}
-use Rattle.far_model.specs.Clients.{ClientState, answered_record, client_takes, closed, line_of, preserves}
+use Rattle.far_model.specs.Clients.{ClientState, answered_record, client_takes, closed, preserves}
 use Rattle.far_model.specs.Controller.{ControllerState, completes, controller_takes, evict_key, job_turn, part_came, ready, same_came, same_part, snapshot_begun, tick, wanted}
-use Rattle.far_model.specs.Events.{Keeping, can_deliver_some, client_turn, controller_turn, delivers, does_order, handled, happens_with, has_next, is_enabled, next_sent, recovery_items, restarts, ticks}
+use Rattle.far_model.specs.Events.{Keeping, client_turn, controller_turn, delivers, does_order, handled, happens_with, has_next, is_enabled, next_sent, restarts, ticks}
 use Rattle.far_model.specs.Members.{Among, Each}
 use Rattle.far_model.specs.Parties.{Turn, idle, messages_from}
-use Rattle.far_model.specs.Pass.{Passed, emitted_note, emitted_notes, numbered_note, outs_of, pass, pass_notes, passed_out}
+use Rattle.far_model.specs.Pass.{Passed, emitted_note, emitted_notes, numbered_note, outs_of, pass, pass_notes}
 use Rattle.far_model.specs.Snapshots.{Job, completed, has_begun, has_part, is_whole, part_reads, view_items, with_part, with_same}
 use Rattle.far_model.specs.State.{State, client_at, nobody}
 use Rattle.far_model.specs.View.{SwitchView}
-use Rattle.far_model.proofs.Members.{among_append_left, among_at}
+use Rattle.far_model.proofs.Members.{among_at}
 use Rattle.far_invariants.specs.DrawnNumbers.{is_numbering}
 use Rattle.far_invariants.specs.Flights.{IsFor, IsRouted, OneFlightPerOperation, Subject, OfAdmission, OfEviction, OfJob, OfNone as OfNothing, OfOperation, OfRound, OfSnapshot, subject}
 use Rattle.far_invariants.specs.Notes.{ClientsAre, ClientsGoOn, EventNotes, IsOfNone, IsPassNote, IsSlotNote, OfAnswer, OfNone, OfPass, OfRestart, OfSending}
 use Rattle.flight_laws.proofs.Counts.{count_append}
 use Rattle.flight_laws.proofs.Lists.{by_test, each_map, set_field}
-use Rattle.flight_laws.proofs.Passing.{PassSends, pass_sends}
+use Rattle.flight_laws.proofs.Passing.{pass_sends}
 use Rattle.flight_laws.proofs.SnapGathering.{IsAside}
 use Rattle.flight_laws.proofs.SnapPasses.{each_append}
-use Rattle.flight_laws.proofs.SnapTurning.{evict_aside, takes_aside, tick_aside, wanted_aside}
+use Rattle.flight_laws.proofs.SnapTurning.{evict_aside, takes_aside, tick_aside}
 use Rattle.flight_laws.proofs.WithoutCache.{client_within}
 
 -- ---- notes of the controller

@@ -1,4 +1,5 @@
 -- Nothing can happen exactly where everything is done.
+use Rattle.far_invariants.specs.Slots.{admission_count}
 use Rattle.std.proofs.Common.{◌≡◌, ◌≢◌, ℕ, zero, suc, ◌≤◌, ◌<◌, ◌⊎◌, inl, inr, Bool, true, false, true≢false, cond, not, ◌&&◌, ◌||◌, nat_eq, nat_le, eqb-true, eq-eqb, max, List, [], ◌∷◌, ◌++◌, length, get_or, refl, sym, ap, ◌∙◌, subst, arith}
 use Rattle.std.specs.Prelude.{Option, None, Some, is_some, slice_get, slice_index_or}
 use Rattle.std.specs.List.{count_by, list_all, list_any}
@@ -16,21 +17,18 @@ use Rattle.far_base.specs.declared.party.Party.{Party}
 use Rattle.far_base.specs.declared.plan.Config.{Config}
 use Rattle.far_base.specs.declared.plan.Order.{Order}
 use Rattle.far_base.specs.declared.plan.Order.TheVariants.{Admit as AdmitOrder, Evict as EvictOrder, Snap as SnapOrder, Stop as StopOrder, StopAt as StopAtOrder}
-use Rattle.far_base.specs.declared.record.Record.{Record}
 use Rattle.far_base.specs.declared.slot_state.SlotState.{SlotState}
 use Rattle.far_base.specs.declared.slot_state.SlotState.TheVariants.{Free, Admitting, Held, Evicting}
 use Rattle.far_model.specs.Clients.{ClientState}
 use Rattle.far_model.specs.Controller.{ControllerState, ready, ready_in, tick, tick_free, tick_room, tick_want, tick_wants}
 use Rattle.far_model.specs.Events.{counted_for, can_deliver, can_recover, can_send, choice_if, choices, deliver_choices, has_next, is_order_due, is_order_enabled, is_possible, is_switch, send_choices}
 use Rattle.far_model.specs.Evictions.{Eviction, first_place, has_key, is_free, is_held, state_at, victim}
-use Rattle.far_invariants.specs.Flights.{IsFor, IsFrom, flights_of, open_count, subject}
-use Rattle.far_invariants.specs.Invariants.{admission_count}
+use Rattle.far_invariants.specs.Flights.{IsFor, IsFrom, flights_of, open_count, subject, IsInFlight}
 use Rattle.far_model.specs.Members.{Among, is_empty}
 use Rattle.far_model.specs.Rounds.{Round, Telling, asks_tops, greatest_top, has_told, no_telling, ready_counter, telling_at}
 use Rattle.far_model.specs.Runs.{is_done, is_finished, is_quiet}
 use Rattle.far_model.specs.State.{State, client_at}
 use Rattle.flight_laws.proofs.Finishing.{none_sends}
-use Rattle.flight_laws.proofs.Handling.{IsInFlight}
 use Rattle.far_invariants.specs.InFlight.{AdmissionsFly, EvictionsFly, IsAsked, IsTelling, OwnFlies, RoundFlies, RoundIs, RoundsFly, due_top, is_ask, is_job_from, is_told, is_top}
 use Rattle.far_invariants.specs.Sizes.{IsSized}
 use Rattle.flight_laws.proofs.Counts.{Passing, none_counted, some_counted}
@@ -232,10 +230,6 @@ from_switch _ from h f = refl
 
 -- ---- a running switch
 
-all_come : (parts : List (Option (Option Record))) → ((i : ℕ) → i < length parts → is_some (slice_index_or parts i None) ≡ true) → list_all is_some parts ≡ true
-all_come [] h = refl
-all_come (x ∷ xs) h = both_true _ _ (h 0 (omega arith)) (all_come xs (λ i b. h (suc i) (omega (arith, b))))
-
 pub all_pass : {X : Type 0} (p : X → Bool) (xs : List X) (d : X) → ((i : ℕ) → i < length xs → p (get_or xs i d) ≡ true) → list_all p xs ≡ true
 all_pass p [] d h = refl
 all_pass p (x ∷ xs) d h = both_true _ _ (h 0 (omega arith)) (all_pass p xs d (λ i b. h (suc i) (omega (arith, b))))
@@ -281,7 +275,7 @@ module _ (plan : PlanView) (valid : IsPlan plan) (s : State) (h : Flies plan s) 
         go Free e = refl
         go (Held key tag) e = refl
         go (Admitting key tag) e =
-            let one = ap (λ bag. count_by (λ (m : Message). Rattle.far_invariants.specs.Invariants.is_admission_of i s.controller.epoch m.packet) bag) bag_none in
+            let one = ap (λ bag. count_by (λ (m : Message). Rattle.far_invariants.specs.Slots.is_admission_of i s.controller.epoch m.packet) bag) bag_none in
             let count = h.admissions.one round_none i in
             let is : admission_count (state_at s.controller.slots i) ≡ 1 = ap admission_count e in
             absurd (omega (arith, one, count, is))

@@ -1,5 +1,6 @@
 -- What a run draws and sends has room.
-use Rattle.std.proofs.Common.{◌≡◌, ℕ, ◌+◌, ◌≤◌, Bool, true, false, List, [], ◌∷◌, length, map, refl, sym, ap, ◌∙◌, subst, arith, le_trans}
+use Rattle.far_invariants.specs.Flights.{IsInFlight}
+use Rattle.std.proofs.Common.{◌≡◌, ℕ, ◌+◌, ◌≤◌, Bool, false, List, [], ◌∷◌, length, map, refl, ap, arith}
 use Rattle.std.specs.List.{count_by}
 use Rattle.far_base.specs.Limits.{IsPlan}
 use Rattle.far_base.specs.PlanView.{PlanView}
@@ -10,20 +11,18 @@ use Rattle.far_base.specs.declared.packet.Message.{Message}
 use Rattle.far_model.specs.Clients.{line_of}
 use Rattle.far_base.specs.declared.event.Event.{Event}
 use Rattle.far_base.specs.declared.record.Record.{Record}
-use Rattle.far_model.specs.Events.{Keeping, happens_with, is_enabled, recovery_items}
-use Rattle.far_model.specs.Members.{Among, Each}
+use Rattle.far_model.specs.Events.{Keeping, happens_with, recovery_items}
+use Rattle.far_model.specs.Members.{Each}
 use Rattle.far_model.specs.Replies.{IsRunWith, KeptEvent, ceiling_after, ceiling_with, run_with}
 use Rattle.far_model.specs.State.{State, line_at, noted, now, opening}
-use Rattle.far_model.specs.Work.{work_bound, work_left}
 use Rattle.far_invariants.specs.DrawnNumbers.{drawn_count, is_numbering}
-use Rattle.far_invariants.specs.Flights.{IsRouted, OneFlightPerOperation}
 use Rattle.far_invariants.specs.Notes.{EventNotes, IsOfNone, OfAnswer, OfNone, OfPass, OfRestart, OfSending}
 use Rattle.far_invariants.specs.Room.{HasRoom}
 use Rattle.far_invariants.specs.Sizes.{is_store}
 use Rattle.flight_laws.proofs.Bounds.{bound_small, opening_within}
-use Rattle.flight_laws.proofs.Counts.{count_append, count_cons, counted, counted_false}
+use Rattle.flight_laws.proofs.Counts.{count_append, count_cons, counted_false}
 use Rattle.flight_laws.proofs.Drawing.{opens_in, run_in, within_more}
-use Rattle.flight_laws.proofs.Handling.{IsInFlight, flight_opens, flight_step}
+use Rattle.flight_laws.proofs.Handling.{flight_opens, flight_step}
 use Rattle.flight_laws.proofs.Lists.{by_test}
 use Rattle.flight_laws.proofs.Noting.{event_notes}
 use Rattle.flight_laws.proofs.Rooms.{bag_within_work, opens_draws, run_draws}

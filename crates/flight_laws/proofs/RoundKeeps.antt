@@ -1,4 +1,5 @@
 -- Rounds at the controller: records are told and stored, tops are asked and told; recovery begins.
+use Rattle.far_invariants.specs.Slots.{IsGiven}
 use Rattle.std.proofs.Common.{◌≡◌, ℕ, zero, suc, ◌+◌, ◌≤◌, ◌<◌, ◌⊎◌, inl, inr, Bool, true, false, true≢false, cond, not, ◌&&◌, nat_eq, eq-eqb, eqb-true, ne_eqb, List, [], ◌∷◌, ◌++◌, append_assoc, length, refl, sym, ap, ◌∙◌, subst, arith, le_trans}
 use Rattle.std.specs.Prelude.{None, Some, slice_index_or, is_some}
 use Rattle.std.specs.List.{count_by, list_all}
@@ -15,7 +16,6 @@ use Rattle.far_model.specs.Controller.{ControllerState, round_turn, to_servers}
 use Rattle.far_model.specs.Events.{controller_turn, is_switch}
 use Rattle.far_model.specs.Evictions.{state_at}
 use Rattle.far_invariants.specs.Flights.{Subject, OfEviction, OfJob, OfRound, subject}
-use Rattle.far_invariants.specs.Invariants.{IsGiven}
 use Rattle.far_model.specs.Members.{Among}
 use Rattle.far_model.specs.Parties.{Turn, messages_from}
 use Rattle.far_model.specs.Rounds.{Round, asks_tops, has_told}
@@ -33,9 +33,6 @@ tops_are : (number n more : ℕ) (x : Message) → Among x (messages_from Contro
 tops_are number n zero x a = absurd a
 tops_are number n (suc more) x (inl e) = (n, e)
 tops_are number n (suc more) x (inr a) = tops_are number (suc n) more x a
-
-top_message : ℕ → ℕ → Message
-top_message number n = record { from = Controller; to = Server n; packet = TopAsk number }
 
 -- each server is asked once
 tops_counted : (number k n more : ℕ) → (k < n → count_by (λ (x : Message). is_top number k x.to x.packet) (messages_from Controller (to_servers n more (TopAsk number))) ≡ 0)

@@ -115,7 +115,7 @@ module _ (plan : PlanView) (s : State) (newer : (j : Job) → s.controller.job �
 -- what the last completed snapshot covered before an event is covered after it
 pub event_covers : (plan : PlanView) (s : State) (p : Past) (e : Event) → SnapshotsStand true plan s p.starts → Needs true plan s → is_enabled plan s e ≡ true → CompletionIsSafe plan s (happens plan s e)
 event_covers plan s p e h owed can = completion_safe plan s (happens plan s e) p.starts (remembers s p e).starts h k
-    (λ key num a. record { op = a.op; on_key = a.on_key; numbered_at = a.numbered_at; numbered = g.log _ a.numbered; emitted_at = a.emitted_at; body = a.body; emitted = g.log _ a.emitted })
+    (λ key num a. record { op = a.op; on_key = a.on_key; numbered_at = a.numbered_at; numbered = g.log _ a.numbered; absorbed = record { emitted_at = a.absorbed.emitted_at; body = a.absorbed.body; emitted = g.log _ a.absorbed.emitted } })
     (rises g.last h.gathered.last k.gathered.last)
   where
     k : SnapshotsStand true plan (happens plan s e) (remembers s p e).starts

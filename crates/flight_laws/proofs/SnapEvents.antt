@@ -27,7 +27,7 @@ use Rattle.far_model.proofs.Members.{among_at}
 use Rattle.far_invariants.specs.SnapshotNeeds.{Needs}
 use Rattle.far_invariants.specs.Snapshots.{gathering, JobWaits, PacketStands, PartIsTaken, is_start_in, SnapshotsStand}
 use Rattle.flight_laws.proofs.SnapBasics.{both, not_true, count_removed, none_counted, counted}
-use Rattle.flight_laws.proofs.SnapFrame.{is_foreign, starts_in, IsRest, rest_all, rest_taken, IsPlainNote}
+use Rattle.flight_laws.proofs.SnapFrame.{rest_all, rest_taken, IsPlainNote}
 use Rattle.flight_laws.proofs.SnapPasses.{pass_is, dropped_is, is_start}
 use Rattle.flight_laws.proofs.SnapSwitching.{pass_stands}
 use Rattle.flight_laws.proofs.SnapStarting.{pass_fresh, start_stands}
@@ -44,9 +44,6 @@ no_starts v _ h = refl
 -- ---- a delivery
 
 module _ {tells : Bool} (plan : PlanView) (s : State) (starts : List SnapshotStart) (h : SnapshotsStand tells plan s starts) (owed : Needs tells plan s) (i : ℕ) (k : Keeping) where
-  abbrev Stands : State → List SnapshotStart → Type 0
-  Stands t more = SnapshotsStand tells plan t (starts ++ more)
-
   none_new : (t : State) → SnapshotsStand tells plan t starts → SnapshotsStand tells plan t (starts ++ [])
   none_new t k = subst (SnapshotsStand tells plan t) (sym (append-nil starts)) k
 

@@ -17,7 +17,7 @@ use Rattle.far_base.specs.declared.party.Party.{Party}
 use Rattle.far_base.specs.declared.record.Record.{Record}
 use Rattle.far_model.specs.History.{nothing, held_in}
 use Rattle.far_model.specs.KeyedRecords.{found, put_record}
-use Rattle.far_invariants.specs.Covers.{IsAtServer}
+use Rattle.far_invariants.specs.Covers.{IsAtServer, IsAbsorbed}
 use Rattle.far_model.specs.Log.{same_key}
 use Rattle.far_model.specs.Members.{Among, Each}
 use Rattle.far_model.specs.Parties.{messages_from}
@@ -27,7 +27,7 @@ use Rattle.far_model.specs.Snapshots.{SnapshotView, no_snapshot}
 use Rattle.far_model.specs.State.{State, client_at, records_at, line_at, now, noted}
 use Rattle.far_model.specs.View.{SwitchView, server_of}
 use Rattle.far_model.proofs.Members.{among_append, among_append_left, among_remove, among_map_from, each_among}
-use Rattle.far_invariants.specs.Snapshots.{IsInViews, IsStartOf, HadView, IsEarlier, StartsStand, Gathering, gathering, IsLast, GatheringStands, SwitchStands, InStep, PacketStands, PartIsTaken, is_start_in, WasDrawn, IsAbsorbed, CoversStand, SnapshotsStand}
+use Rattle.far_invariants.specs.Snapshots.{IsInViews, IsStartOf, HadView, IsEarlier, StartsStand, Gathering, gathering, IsLast, GatheringStands, SwitchStands, InStep, PacketStands, PartIsTaken, is_start_in, WasDrawn, CoversStand, SnapshotsStand}
 use Rattle.flight_laws.proofs.SnapBasics.{count_removed, count_append, count_none, set_cases, same_key_true}
 
 -- ---- packets of other kinds
@@ -181,9 +181,11 @@ absorbs_plain plan s notes plain key num a = inl (record {
   on_key = a.on_key;
   numbered_at = a.numbered_at;
   numbered = old (line_at a.numbered_at (Numbered a.op num)) (λ p. p) (among_append _ s.log (map (line_at (now s)) notes) a.numbered);
-  emitted_at = a.emitted_at;
-  body = a.body;
-  emitted = old (line_at a.emitted_at (Emitted a.op num a.body true)) (λ p. p) (among_append _ s.log (map (line_at (now s)) notes) a.emitted);
+  absorbed = record {
+    emitted_at = a.absorbed.emitted_at;
+    body = a.absorbed.body;
+    emitted = old (line_at a.absorbed.emitted_at (Emitted a.op num a.absorbed.body true)) (λ p. p) (among_append _ s.log (map (line_at (now s)) notes) a.absorbed.emitted);
+  };
 })
   where
     old : (l : LogLine) → (IsPlainNote l.entry → ⊥) → Among l s.log ⊎ Among l (map (line_at (now s)) notes) → Among l s.log
@@ -192,20 +194,20 @@ absorbs_plain plan s notes plain key num a = inl (record {
 
 pub absorbs_fresh : (plan : PlanView) (s : State) (notes : List LogEntry) → s.running ≡ true → Each (IsFreshNote s) notes → AbsorbsFresh plan s (noted s notes)
 absorbs_fresh plan s notes runs fresh key num a =
-    go (among_append _ s.log (map (line_at (now s)) notes) a.numbered) (among_append _ s.log (map (line_at (now s)) notes) a.emitted)
+    go (among_append _ s.log (map (line_at (now s)) notes) a.numbered) (among_append _ s.log (map (line_at (now s)) notes) a.absorbed.emitted)
   where
     number : LogLine
     number = line_at a.numbered_at (Numbered a.op num)
 
     answer : LogLine
-    answer = line_at a.emitted_at (Emitted a.op num a.body true)
+    answer = line_at a.absorbed.emitted_at (Emitted a.op num a.absorbed.body true)
 
     go : Among (line_at a.numbered_at (Numbered a.op num)) s.log ⊎ Among (line_at a.numbered_at (Numbered a.op num)) (map (line_at (now s)) notes)
-        → Among (line_at a.emitted_at (Emitted a.op num a.body true)) s.log ⊎ Among (line_at a.emitted_at (Emitted a.op num a.body true)) (map (line_at (now s)) notes)
+        → Among (line_at a.absorbed.emitted_at (Emitted a.op num a.absorbed.body true)) s.log ⊎ Among (line_at a.absorbed.emitted_at (Emitted a.op num a.absorbed.body true)) (map (line_at (now s)) notes)
         → IsAbsorbed plan s.log key num ⊎ ((s.running ≡ true) × (s.switch.counter < num))
     go (inr h) k = inr (runs, note_is (now s) a.numbered_at (Numbered a.op num) notes (IsFreshNote s) fresh h)
-    go (inl h) (inl k) = inl (record { op = a.op; on_key = a.on_key; numbered_at = a.numbered_at; numbered = h; emitted_at = a.emitted_at; body = a.body; emitted = k })
-    go (inl h) (inr k) = either (note_is (now s) a.emitted_at (Emitted a.op num a.body true) notes (IsFreshNote s) fresh k refl)
+    go (inl h) (inl k) = inl (record { op = a.op; on_key = a.on_key; numbered_at = a.numbered_at; numbered = h; absorbed = record { emitted_at = a.absorbed.emitted_at; body = a.absorbed.body; emitted = k } })
+    go (inl h) (inr k) = either (note_is (now s) a.absorbed.emitted_at (Emitted a.op num a.absorbed.body true) notes (IsFreshNote s) fresh k refl)
       where
         either : (s.switch.counter < num) ⊎ ((at own : ℕ) → Among (line_at at (Numbered a.op own)) s.log → ⊥) → IsAbsorbed plan s.log key num ⊎ ((s.running ≡ true) × (s.switch.counter < num))
         either (inl more) = inr (runs, more)

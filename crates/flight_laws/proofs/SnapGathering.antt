@@ -164,9 +164,6 @@ module _ {tells : Bool} (plan : PlanView) (s : State) (starts : List SnapshotSta
       part_of up m (inl a) = h.parts up m a
       part_of up m (inr f) = foreign_part s.switch m.packet f
 
-  abbrev whole_turn : ℕ → Turn ControllerState
-  whole_turn sames = completes plan.config s.controller (completed new) sames
-
   -- it is whole
   is_done : (sames : ℕ) → is_whole new ≡ true → SnapshotsStand tells plan (controller_turn s rest (completes plan.config s.controller (completed new) sames)) starts
   is_done sames whole = begun new.begun refl (both (has_begun new) (list_all is_some new.parts) whole)

@@ -6,14 +6,14 @@ use Rattle.far_base.specs.declared.packet.Message.{Message}
 use Rattle.far_base.specs.declared.packet.Packet.{Packet}
 use Rattle.far_base.specs.declared.packet.Packet.TheVariants.{SnapPart, Release, SnapSame}
 use Rattle.far_base.specs.declared.record.Record.{Record}
-use Rattle.far_invariants.specs.Covers.{IsAtServer, Covers}
+use Rattle.far_invariants.specs.Covers.{IsAtServer, Covers, IsAbsorbed}
 use Rattle.far_model.specs.Members.{Among}
 use Rattle.far_invariants.specs.Past.{SnapshotStart}
 use Rattle.far_model.specs.Snapshots.{SnapshotView, no_snapshot, view_records}
 use Rattle.far_model.specs.State.{State}
 use Rattle.far_model.specs.View.{mark_of, taken_at, shown_at, is_taken}
 use Rattle.far_invariants.specs.SnapshotLaws.{PartsAreStarts, MarksMatch, StartCoversPoint, ReleasedIsCovered, PreservedIsAbove, CompletionIsSafe}
-use Rattle.far_invariants.specs.Snapshots.{view_at, IsInViews, IsStartOf, HadView, gathering, part_at, IsLast, ByDifference, PacketStands, PartIsTaken, IsAbsorbed, SnapshotsStand}
+use Rattle.far_invariants.specs.Snapshots.{view_at, IsInViews, IsStartOf, HadView, gathering, part_at, IsLast, ByDifference, PacketStands, PartIsTaken, SnapshotsStand}
 use Rattle.flight_laws.proofs.SnapFrame.{one_start, points_rise}
 
 -- ---- views as records
@@ -33,9 +33,6 @@ record_at (Some item ∷ views) r (inr a) = let p = record_at views r a in (suc 
 
 pub views_cover : (views : List (Option Record)) (key : List ℕ) (num : ℕ) → IsInViews views key num → Covers (view_records views) key num
 views_cover views key num c = record { item = c.item; there = in_records views c.slot c.item c.holds; on_key = c.on_key; above = c.above }
-
-pub cover_views : (views : List (Option Record)) (key : List ℕ) (num : ℕ) → Covers (view_records views) key num → IsInViews views key num
-cover_views views key num c = let p = record_at views c.item c.there in record { slot = p.0; item = c.item; holds = p.1; on_key = c.on_key; above = c.above }
 
 either_cover : (plan : PlanView) (s : State) (views : List (Option Record)) (key : List ℕ) (num : ℕ) → IsAtServer plan s key num ⊎ IsInViews views key num → IsAtServer plan s key num ⊎ Covers (view_records views) key num
 either_cover plan s views key num (inl c) = inl c

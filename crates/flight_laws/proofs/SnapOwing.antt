@@ -1,14 +1,11 @@
 -- How what is owed follows from what the other laws say.
-use Rattle.std.proofs.Common.{◌≡◌, ℕ, zero, suc, List, refl, sym, ap, ◌∙◌, subst, arith}
+use Rattle.far_invariants.specs.Numbers.{IsWritten, NumbersDiffer}
+use Rattle.std.proofs.Common.{◌≡◌, ℕ, zero, suc, refl, sym, ap, ◌∙◌, subst, arith}
 use Rattle.far_base.specs.PlanView.{PlanView}
-use Rattle.far_base.specs.declared.log.LogLine.{LogLine}
 use Rattle.far_base.specs.declared.log.LogEntry.TheVariants.{Numbered}
 use Rattle.far_base.specs.declared.record.Record.{Record}
 use Rattle.far_model.specs.Clients.{line_of}
-use Rattle.far_invariants.specs.Invariants.{IsWritten, NumbersDiffer, SendsByPlan}
-use Rattle.far_invariants.specs.Covers.{IsAbsorbed as IsAbsorbedInLog}
 use Rattle.far_model.specs.State.{State}
-use Rattle.far_invariants.specs.Snapshots.{IsAbsorbed}
 
 -- two records that were written, with one key and number, have one body
 pub written_agree : (plan : PlanView) (s : State) (moment other : ℕ) (r q : Record) → NumbersDiffer s → IsWritten plan s.log moment r.key r.num r.body → IsWritten plan s.log other q.key q.num q.body → r.num ≡ q.num → r.body ≡ q.body
@@ -21,15 +18,3 @@ written_agree plan s moment other r q differ a b same = go r.num refl
         let y = b.some (omega (arith, e, same)) in
         let op = differ.differ x.own.numbered_at y.own.numbered_at x.op y.op r.num x.own.numbered (subst (λ w. Rattle.far_model.specs.Members.Among (Rattle.far_model.specs.State.line_at y.own.numbered_at (Numbered y.op w)) s.log) (sym same) y.own.numbered) in
         sym x.same_body ∙ ap (λ o. (line_of plan.ops o).body) op ∙ y.same_body
-
--- the two ways to say that a number is absorbed
-pub absorbed_by_plan : (plan : PlanView) (log : List LogLine) (key : List ℕ) (num : ℕ) → SendsByPlan plan log → IsAbsorbedInLog log key num → IsAbsorbed plan log key num
-absorbed_by_plan plan log key num by a = record {
-  op = a.op;
-  on_key = ap (λ (l : Rattle.far_base.specs.declared.plan.OpLine.OpLine). l.key) (sym (by.line a.sent_at a.op a.line a.sent)) ∙ a.on_key;
-  numbered_at = a.numbered_at;
-  numbered = a.numbered;
-  emitted_at = a.emitted_at;
-  body = a.body;
-  emitted = a.emitted;
-}

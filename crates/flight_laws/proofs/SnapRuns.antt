@@ -17,7 +17,7 @@ use Rattle.far_base.specs.declared.record.Record.{Record}
 use Rattle.far_invariants.specs.Remembered.{WasMadeBy}
 use Rattle.far_model.specs.Clients.{ClientState, client_takes, released_to}
 use Rattle.far_model.specs.Events.{Keeping, happens, is_enabled, handled, delivers, switch_turn, client_turn, can_deliver, can_deliver_some, is_switch, reply_to, reply_at, all_listed}
-use Rattle.far_invariants.specs.Covers.{IsAtServer, Covers, IsInSnapshot}
+use Rattle.far_invariants.specs.Covers.{IsAtServer, Covers, IsInSnapshot, IsAbsorbed}
 use Rattle.far_model.specs.Members.{Among}
 use Rattle.far_invariants.specs.Past.{SnapshotStart, Past, no_past, start_of, starts_by, starts_with, new_starts, remembers, past_from, past_of}
 use Rattle.far_model.specs.Pass.{starts_snapshot, dropped}
@@ -27,8 +27,7 @@ use Rattle.far_model.specs.State.{State, client_at, clients_from, nobody, openin
 use Rattle.far_model.specs.View.{SwitchView, held_record}
 use Rattle.far_model.proofs.Members.{among_at}
 use Rattle.far_invariants.specs.SnapshotLaws.{CompletedIsStart, ReleaseIsSafe, IsOwed}
-use Rattle.far_invariants.specs.Snapshots.{IsStartOf, IsLast, IsAbsorbed, ClientStands, SnapshotsStand}
-use Rattle.flight_laws.proofs.SnapFrame.{rest_taken}
+use Rattle.far_invariants.specs.Snapshots.{IsStartOf, IsLast, ClientStands, SnapshotsStand}
 use Rattle.flight_laws.proofs.SnapRuling.{empty_stands}
 use Rattle.flight_laws.proofs.SnapEvents.{event_stands}
 use Rattle.flight_laws.proofs.SnapMeanings.{released_covered}

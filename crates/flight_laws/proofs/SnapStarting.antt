@@ -1,5 +1,5 @@
 -- The switch takes the start of a snapshot; what the log keeps of a pass.
-use Rattle.std.proofs.Common.{◌≡◌, ◌≢◌, ℕ, ◌+◌, ◌<◌, ◌≤◌, ◌⊎◌, inl, inr, Bool, true, false, cond, List, [], ◌∷◌, ◌++◌, length, refl, sym, ap, ◌∙◌, subst, arith, eq-eqb}
+use Rattle.std.proofs.Common.{◌≡◌, ◌≢◌, ℕ, ◌+◌, ◌<◌, ◌≤◌, ◌⊎◌, inl, inr, Bool, true, false, List, [], ◌∷◌, ◌++◌, length, refl, sym, ap, ◌∙◌, subst, arith, eq-eqb}
 use Rattle.std.specs.Prelude.{Option, Some, None, ◌&&◌, not, nat_eq}
 use Rattle.std.proofs.lemmas.List.{length-map}
 use Rattle.std.proofs.lemmas.Option.{same_Some}
@@ -12,7 +12,7 @@ use Rattle.far_base.specs.declared.packet.Packet.TheVariants.{GetReq, WriteReq, 
 use Rattle.far_base.specs.declared.party.Party.TheVariants.{Client, Server, Switch, Controller}
 use Rattle.far_base.specs.declared.record.Record.{Record}
 use Rattle.far_model.specs.Events.{switch_turn}
-use Rattle.far_invariants.specs.Covers.{IsAtServer, IsInSlot}
+use Rattle.far_invariants.specs.Covers.{IsAtServer, IsInSlot, IsAbsorbed}
 use Rattle.far_model.specs.Members.{Among, Each}
 use Rattle.far_model.specs.Parties.{messages_from, to_party}
 use Rattle.far_model.specs.Pass.{Passed, pass, pass_notes, emitted_notes, dropped, changes, changed_view, with_slot, with_taken, numbered, absorbing, read_passes, write_passes, reply_passes, takes_reply, raised, is_slot_there, admits, peeks, removes, removed_answer, may_go, is_under, reads_part, is_as_before, starts_snapshot, sent_to}
@@ -22,17 +22,13 @@ use Rattle.far_model.specs.State.{State, line_at}
 use Rattle.far_model.specs.View.{SlotView, SwitchView, slot_at, held_record, mark_of, taken_at, shown_at, is_taken, empty_slot, entry_place, server_of}
 use Rattle.far_model.proofs.Members.{among_append, among_append_right, pairs_append}
 use Rattle.far_invariants.specs.SnapshotNeeds.{Needs, IsUnnumberedRead}
-use Rattle.far_invariants.specs.Snapshots.{view_at, IsInViews, IsStartOf, IsEarlier, StartsStand, Gathering, gathering, IsLast, JobStands, GatheringStands, SwitchStands, ByDifference, IsSettled, InStep, JobWaits, PacketStands, PartIsTaken, is_start_in, WasDrawn, IsAbsorbed, SnapshotsStand}
-use Rattle.flight_laws.proofs.SnapBasics.{both, by_test, by_case, map_at}
+use Rattle.far_invariants.specs.Snapshots.{view_at, IsInViews, IsStartOf, IsEarlier, StartsStand, Gathering, gathering, IsLast, JobStands, GatheringStands, SwitchStands, ByDifference, IsSettled, InStep, JobWaits, PacketStands, PartIsTaken, is_start_in, WasDrawn, SnapshotsStand}
+use Rattle.flight_laws.proofs.SnapBasics.{by_test, map_at}
 use Rattle.flight_laws.proofs.SnapFrame.{IsRest, count_in, start_more, view_more, IsPlainNote, IsFreshNote, AbsorbsFresh, absorbs_plain, noted_more, cover_lasts, last_counted}
 
 -- ---- what the log keeps of a pass
 
 module _ (s : State) where
-  -- the first packet that leaves is no answer
-  unanswered : (o : Option Out) → emitted_notes o ≡ [] → Each (IsFreshNote s) (emitted_notes o)
-  unanswered o e = subst (λ l. Each (IsFreshNote s) l) (sym e) tt
-
   read_fresh : (caller op : ℕ) (key : List ℕ) (o : Option ℕ) → ((at num : ℕ) → Among (line_at at (Numbered op num)) s.log → ⊥) → Each (IsFreshNote s) (emitted_notes (read_passes s.switch caller op key o).first)
   read_fresh caller op key None none = tt
   read_fresh caller op key (Some i) none = by_test (λ o. Each (IsFreshNote s) (emitted_notes o)) (slot_at s.switch i).latest
@@ -53,13 +49,6 @@ module _ (s : State) where
 
   reply_fresh : (tag : Option ℕ) (num : ℕ) (body : Option (List ℕ)) (out : Option Out) (o : Option ℕ) → Each (IsFreshNote s) (emitted_notes out) → Each (IsFreshNote s) (emitted_notes (reply_passes s.switch tag num body out o).first)
   reply_fresh tag num body out o h = subst (λ w. Each (IsFreshNote s) (emitted_notes w)) (sym (reply_first tag num body out o)) h
-
-  -- a packet of the controller
-  silent : (P : Passed → Type 0) (b : Bool) (p : Passed) → P p → P (dropped s.switch) → P (cond b p (dropped s.switch))
-  silent P b p h k = by_test P b p (dropped s.switch) h k
-
-  IsSilent : Passed → Type 0
-  IsSilent p = Each (IsFreshNote s) (emitted_notes p.first)
 
   admit_silent : (i : ℕ) (key : List ℕ) (tag : ℕ) → Each (IsFreshNote s) (emitted_notes (admits s.switch i key tag).first)
   admit_silent i key tag = by_test (λ o. Each (IsFreshNote s) (emitted_notes o)) (slot_at s.switch i).valid None (sent_to Controller (AdmitAck i tag)) tt tt
@@ -118,9 +107,6 @@ module _ {tells : Bool} (plan : PlanView) (s : State) (starts : List SnapshotSta
     (id base : ℕ) (w : JobWaits (gathering s.controller) starts id)
     (by : (base ≡ 0) ⊎ ((base ≡ s.controller.last.id) × (s.controller.last_epoch ≡ s.controller.epoch) × (0 < base)))
     (none : (m : Message) → Among m rest → is_start_in s.controller.epoch m.packet ≡ false) where
-  abbrev new : SnapshotStart
-  new = start_of s.switch id
-
   abbrev more : List SnapshotStart
   more = starts ++ start_of s.switch id ∷ []
 

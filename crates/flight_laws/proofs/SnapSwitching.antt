@@ -58,9 +58,6 @@ module _ {tells : Bool} where
 -- ---- a pass in which a part leaves
 
 module _ (plan : PlanView) (v : SwitchView) (starts : List SnapshotStart) (k : SwitchStands plan v starts) (i : ℕ) (bound : List (Option (List ℕ))) (slots : List SlotView) (hot : List HotCell) (n : ℕ) (l : PartLeaves v i slots n) where
-  abbrev after : SwitchView
-  after = parted v i bound slots hot n
-
   its_taken : taken_at (parted v i bound slots hot n) i ≡ v.snap
   its_taken = get_or-set_same v.taken i v.snap 0 (let w = l.within in let a = k.slots in let b = k.taken in omega (arith, w, a, b))
 

@@ -151,9 +151,6 @@ module _ {tells : Bool} where
 
 -- ---- the controller
 
-abbrev pub Aside : ControllerState → Turn ControllerState → Type 0
-Aside c t = IsAside c t
-
 idle_aside : (c d : ControllerState) → gathering d ≡ gathering c → IsAside c (idle d)
 idle_aside c d e = record { same = e; out = tt; notes = tt; silent = tt }
 

@@ -1,10 +1,10 @@
 -- The invariant of admissions in its older words, while the switch runs.
+use Rattle.far_invariants.specs.Slots.{AdmissionIs, AdmissionsInFlight}
 use Rattle.std.proofs.Common.{◌≡◌, ℕ, ◌<◌, true, refl}
 use Rattle.far_base.specs.PlanView.{PlanView}
 use Rattle.far_base.specs.declared.packet.Packet.{Packet}
 use Rattle.far_base.specs.declared.packet.Packet.TheVariants.{Admit, AdmitAck}
 use Rattle.far_invariants.specs.Flights.{OfAdmission, subject}
-use Rattle.far_invariants.specs.Invariants.{AdmissionIs, AdmissionsInFlight}
 use Rattle.far_model.specs.State.{State}
 use Rattle.far_invariants.specs.InFlight.{AdmissionFits, AdmissionMeets}
 use Rattle.flight_laws.proofs.SwitchKeeps.{Inv, running_no_round}

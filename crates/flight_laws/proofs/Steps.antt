@@ -1,4 +1,5 @@
 -- One step of every event, and runs.
+use Rattle.far_invariants.specs.Slots.{IsGiven}
 use Rattle.std.proofs.Common.{◌≡◌, ℕ, zero, suc, ◌+◌, ◌≤◌, ◌<◌, ◌⊎◌, inl, inr, Bool, true, false, true≢false, not, ◌||◌, eqb-true, List, [], ◌∷◌, length, replicate, refl, sym, ap, ◌∙◌, subst, arith}
 use Rattle.std.specs.Prelude.{Option, None, Some, is_some, slice_get, slice_index_or}
 use Rattle.std.specs.List.{remove}
@@ -22,8 +23,7 @@ use Rattle.far_model.specs.Clients.{ClientState, line_of, request, script}
 use Rattle.far_model.specs.Controller.{ControllerState, ready, tick}
 use Rattle.far_model.specs.Events.{Keeping, can_deliver_some, can_send, client_turn, controller_turn, delivers, does_order, handled, happens_with, has_next, is_enabled, is_order_due, next_sent, restarts, ticks}
 use Rattle.far_model.specs.Evictions.{state_at}
-use Rattle.far_invariants.specs.Flights.{IsFor, OfOperation, Subject, subject}
-use Rattle.far_invariants.specs.Invariants.{IsGiven}
+use Rattle.far_invariants.specs.Flights.{IsFor, OfOperation, Subject, subject, IsInFlight}
 use Rattle.far_model.specs.Log.{is_read}
 use Rattle.far_model.specs.Members.{Among}
 use Rattle.far_model.specs.Parties.{Turn}
@@ -34,10 +34,10 @@ use Rattle.far_model.specs.View.{SlotView, empty_slot, server_of}
 use Rattle.far_model.specs.Work.{work_left}
 use Rattle.far_model.specs.Runs.{is_finished, is_quiet}
 use Rattle.far_model.proofs.Members.{among_append, among_at}
-use Rattle.flight_laws.proofs.Handling.{IsInFlight, flight_opens, flight_step}
+use Rattle.flight_laws.proofs.Handling.{flight_opens, flight_step}
 use Rattle.flight_laws.proofs.Lists.{by_test, get_or-replicate_default}
 use Rattle.flight_laws.proofs.Working.{step_counted}
-use Rattle.far_invariants.specs.InFlight.{EpochsFit, epoch_in}
+use Rattle.far_invariants.specs.InFlight.{epoch_in}
 use Rattle.far_invariants.specs.Sound.{IsSound}
 use Rattle.flight_laws.proofs.BeginKeeps.{evict_keeps, tick_keeps}
 use Rattle.flight_laws.proofs.ControlKeeps.{acked_keeps, round_or_none, wanted_keeps}
@@ -233,7 +233,7 @@ opens plan = record {
     drawn = λ m i tag a e. absurd a;
     fits = λ m a. absurd a;
     meets = λ r m a. absurd a;
-    one = λ none i. sym (ap Rattle.far_invariants.specs.Invariants.admission_count (free i));
+    one = λ none i. sym (ap Rattle.far_invariants.specs.Slots.admission_count (free i));
     once = λ tag. omega arith;
     empty = λ r i e. ap (λ (x : SlotView). x.valid) (get_or-replicate_default plan.config.slots i empty_slot);
   };

@@ -1,4 +1,5 @@
 -- A pass through the running switch keeps what is in flight.
+use Rattle.far_invariants.specs.Slots.{IsGiven, is_admission_of, admits_under, admission_count}
 use Rattle.std.proofs.Common.{◌≡◌, ◌≢◌, ℕ, ◌≤◌, ◌<◌, ◌⊎◌, inl, inr, Bool, true, false, true≢false, cond, ◌&&◌, nat_eq, nat_lt, eq-eqb, eqb-true, ne_eqb, List, [], ◌∷◌, ◌++◌, append-nil, append_assoc, length, get_or, set, refl, sym, ap, ◌∙◌, subst, arith}
 use Rattle.std.specs.Prelude.{Option, None, Some, slice_index_or}
 use Rattle.std.specs.List.{count_by}
@@ -17,7 +18,6 @@ use Rattle.far_base.specs.declared.slot_state.SlotState.TheVariants.{Free, Admit
 use Rattle.far_model.specs.Events.{switch_turn}
 use Rattle.far_model.specs.Evictions.{Eviction, is_free, state_at}
 use Rattle.far_invariants.specs.Flights.{IsFor, Subject, OfAdmission, OfEviction, OfJob, OfSnapshot, OfRound, OfNone, subject}
-use Rattle.far_invariants.specs.Invariants.{IsGiven, admission_count, admits_under, is_admission_of}
 use Rattle.far_model.specs.Members.{Among}
 use Rattle.far_model.specs.Parties.{messages_from, to_party}
 use Rattle.far_model.specs.Pass.{Passed, dropped, is_slot_there, is_under, pass, passed_out, with_slot, with_taken, part_packet, is_as_before}
@@ -178,9 +178,6 @@ module _ (plan : PlanView) (s : State) (h : Inv plan s) (running : s.running ≡
   no_round_now : s.controller.round ≡ None
   no_round_now = running_no_round plan s h.rounds running
 
-  epoch_same : s.switch.epoch ≡ s.controller.epoch
-  epoch_same = h.epochs.running running
-
   -- what is sent is of the same subject, or of a hot key or a part
   sent : (q : Subject → Bool) → q (subject p) ≡ false → q OfNone ≡ false → (q (OfSnapshot s.switch.snap) ≡ false) → (x : Message) → Among x out → q (subject x.packet) ≡ false
   sent q off none snap x a = let o = sent_is Switch (passed_out r) x a in ap (λ (w : Message). q (subject w.packet)) o.2 ∙ by o.0.packet (is.outs o.0 o.1).0
@@ -325,9 +322,6 @@ module _ (plan : PlanView) (s : State) (h : Inv plan s) (running : s.running ≡
           let one = h.admissions.one admit_round i in
           let is : admission_count (state_at s.controller.slots i) ≡ 1 = ap admission_count (admit_state (e ∙ sym (h.epochs.running running))) in
           absurd (omega (arith, mine, old, least, one, is))
-
-  slot_new : SlotView
-  slot_new = record { key = Some key; tag = tag; valid = true; latest = false; num = 0; body = None }
 
   abbrev ack : Message
   ack = record { from = Switch; to = Controller; packet = AdmitAck i tag }

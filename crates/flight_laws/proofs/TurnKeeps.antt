@@ -1,4 +1,5 @@
 -- Answers of an eviction, its beginning, and wants that are admitted.
+use Rattle.far_invariants.specs.Slots.{IsGiven}
 use Rattle.std.proofs.Common.{◌≡◌, ◌≢◌, ℕ, ◌+◌, ◌≤◌, ◌<◌, inl, inr, Bool, true, false, true≢false, cond, ◌&&◌, nat_eq, eq-eqb, eqb-true, List, [], ◌∷◌, drop, refl, sym, ap, ◌∙◌, subst, arith}
 use Rattle.std.specs.Prelude.{Option, None, Some}
 use Rattle.std.proofs.lemmas.Bool.{and_parts, eqb-false}
@@ -15,7 +16,6 @@ use Rattle.far_model.specs.Controller.{drop_want_if, evicts_on, peek_answered, r
 use Rattle.far_model.specs.Events.{controller_turn}
 use Rattle.far_model.specs.Evictions.{Eviction, Store as StoreNext, Kept, TRIES, after_peek, after_removal, after_store, is_due, removing, shown_item, state_at, storing, waits_for, waits_job}
 use Rattle.far_invariants.specs.Flights.{OfEviction, OfJob, subject}
-use Rattle.far_invariants.specs.Invariants.{IsGiven}
 use Rattle.far_model.specs.Members.{Among}
 use Rattle.far_model.specs.Parties.{idle, to_party}
 use Rattle.far_model.specs.State.{State}

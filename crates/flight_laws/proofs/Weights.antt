@@ -23,13 +23,6 @@ untaken_most v k (suc n) = by (is_taken v k) (untaken_most v (suc k) n)
     by true h = omega (arith, h)
     by false h = omega (arith, h)
 
--- what is taken decides
-pub untaken_same : (v w : SwitchView) (k n : ℕ) → ((i : ℕ) → is_taken w i ≡ is_taken v i) → untaken_from w k n ≡ untaken_from v k n
-untaken_same v w k zero e = refl
-untaken_same v w k (suc n) e =
-    let one : cond {A = ℕ} (is_taken w k) 0 1 ≡ cond {A = ℕ} (is_taken v k) 0 1 = ap (λ b. cond {A = ℕ} b 0 1) (e k) in
-    omega (arith, one, untaken_same v w (suc k) n e)
-
 taken_other : (v : SwitchView) (i : ℕ) (view : Option Record) (j : ℕ) → j ≢ i → is_taken (with_taken v i view) j ≡ is_taken v j
 taken_other v i view j ne = ap (λ n. nat_eq n v.snap) (get_or-set_other v.taken i j v.snap 0 ne)
 

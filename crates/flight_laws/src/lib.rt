@@ -4,7 +4,6 @@
 #![tactic(auto)]
 
 mod flights;
-mod parts;
 mod pass_counts;
 mod past;
 mod runs;
@@ -13,15 +12,12 @@ mod uncached;
 mod work;
 
 pub use flights::{one_flight, routes, steps_counted};
-pub use parts::{
-    client_turns, controller_turns, server_turns, slots_are_set_alone, stops_leave, switch_turns,
-};
 pub use pass_counts::{passes_are_counted, passes_fit};
 pub use past::remembered_past;
 pub use runs::{runs_are_kept_runs, runs_are_logged, runs_are_sound, runs_end, runs_have_room};
 pub use snapshots::{
     completed_is_start, covers_stay, jobs_are_served, release_is_safe, snapshots_are_logged,
-    snapshots_in_flight, snapshots_mean, snapshots_stand, what_is_owed_follows,
+    snapshots_in_flight, snapshots_mean, snapshots_stand, written_records_agree,
 };
 pub use uncached::{uncached_passes, uncached_quiet, uncached_runs, uncached_work};
 pub use work::{flights_kept, numbers_drawn, quiet_exactly_finished, room_needed, work_lowered};

@@ -13,7 +13,10 @@ ghost use Rattle.far_model.specs.State.{opening};
 /// the running switch took that start; each tag was drawn by a tick for its key, slot and epoch; and
 /// each kept list is that of the state in which a recovery began.
 pub fn remembered_past()
-    ensures starts { (plan : PlanView) (events : List Event) (x : SnapshotStart) → Among x (past_of plan events).starts → WasMadeBy new_starts plan (opening plan) events x }
-    ensures drawn { (plan : PlanView) (events : List Event) (x : DrawnTag) → Among x (past_of plan events).drawn → WasMadeBy new_drawn plan (opening plan) events x }
-    ensures recoveries { (plan : PlanView) (events : List Event) (x : List KeptItem) → Among x (past_of plan events).recoveries → WasMadeBy new_recoveries plan (opening plan) events x }
+    ensures starts { (plan : PlanView) (events : List Event) (x : SnapshotStart) → Among x (past_of plan events).starts
+        → WasMadeBy new_starts plan (opening plan) events x }
+    ensures drawn { (plan : PlanView) (events : List Event) (x : DrawnTag) → Among x (past_of plan events).drawn
+        → WasMadeBy new_drawn plan (opening plan) events x }
+    ensures recoveries { (plan : PlanView) (events : List Event) (x : List KeptItem)
+        → Among x (past_of plan events).recoveries → WasMadeBy new_recoveries plan (opening plan) events x }
 {}

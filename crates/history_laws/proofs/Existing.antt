@@ -1,7 +1,7 @@
 -- A coherent log has a history: the places of its operations, in order.
-use Rattle.std.proofs.Common.{◌≡◌, ◌≢◌, ℕ, ◌<◌, ◌≤◌, max, ◌⊎◌, inl, inr, Bool, true, false, true≢false, leb, List, [], ◌∷◌, ◌++◌, refl, sym, ap, ◌∙◌, subst, arith, le_trans}
+use Rattle.std.proofs.Common.{◌≡◌, ◌≢◌, ℕ, ◌<◌, ◌≤◌, max, ◌⊎◌, inl, inr, Bool, true, false, leb, List, [], ◌∷◌, ◌++◌, refl, sym, ap, ◌∙◌, subst, arith}
 use Rattle.std.specs.Prelude.{Option, Some, None}
-use Rattle.std.proofs.lemmas.Bool.Decides.{eqb_tells, leb_tells}
+use Rattle.std.proofs.lemmas.Bool.Decides.{leb_tells}
 use Rattle.std.proofs.lemmas.Option.{same_Some}
 use Rattle.far_base.specs.declared.log.LogEntry.{LogEntry}
 use Rattle.far_base.specs.declared.log.LogEntry.TheVariants.{Sent, Numbered, Emitted, Answered, Admitted, Evicted, Kept, Snapped, SnapItem, Stopped, Recovered, RecItem}
@@ -11,10 +11,10 @@ use Rattle.far_base.specs.declared.plan.OpLine.{OpLine}
 use Rattle.far_model.specs.Coherent.{Earlier, IsCoherent}
 use Rattle.far_model.specs.History.{Before, HasOneLegalHistory, IsHistory, IsPlace, key_of, line_key, read_rank}
 use Rattle.far_model.specs.Log.{At, answering, exposed, is_read, numbering, sending}
-use Rattle.far_model.specs.Members.{Among, Each, Pairs}
+use Rattle.far_model.specs.Members.{Among, Pairs}
 use Rattle.far_model.proofs.Members.{among_append, among_append_left, among_append_right, each_among, each_from_among}
 use Rattle.history_laws.proofs.Exposed.{exposed_most, exposed_shown}
-use Rattle.history_laws.proofs.Places.{answered_placed, history_in_time, history_legal, read_at, write_at, write_placed}
+use Rattle.history_laws.proofs.Places.{answered_placed, history_in_time, history_legal, write_at, write_placed}
 use Rattle.history_laws.proofs.Told.{sending_line}
 use Rattle.history_laws.proofs.Unique.{same_place, the_history}
 

@@ -1,6 +1,6 @@
 -- Exposed numbers, and the moments at which numbers take effect.
 use Rattle.std.proofs.Common.{◌≡◌, ℕ, zero, suc, ◌<◌, ◌≤◌, max, ◌⊎◌, inl, inr, Bool, true, false, List, [], ◌∷◌, refl, sym, ◌∙◌, subst, arith, le-leb, leb-true, le_trans}
-use Rattle.std.specs.Prelude.{Option, Some, None, if◌then◌else◌, nat_le}
+use Rattle.std.specs.Prelude.{Option, Some, if◌then◌else◌, nat_le}
 use Rattle.std.proofs.Math.Nat.{le-max_left, le-max_right}
 use Rattle.std.proofs.lemmas.Bool.Decides.{leb_tells}
 use Rattle.std.specs.Cmp.Lexicographic.{bytes_decides}
@@ -8,7 +8,7 @@ use Rattle.far_base.specs.declared.log.LogLine.{LogLine}
 use Rattle.far_base.specs.declared.log.LogEntry.{LogEntry}
 use Rattle.far_base.specs.declared.log.LogEntry.TheVariants.{Emitted}
 use Rattle.far_model.specs.Members.{Among}
-use Rattle.far_model.specs.Log.{At, same_key, sent_on, is_on, sending, exposed, IsTakingMoment, number_exposed, greatest_exposed}
+use Rattle.far_model.specs.Log.{At, same_key, is_on, sending, exposed, IsTakingMoment, number_exposed, greatest_exposed}
 
 pub same_key_true : (a b : List ℕ) → same_key a b ≡ true → a ≡ b
 same_key_true a b h = (bytes_decides a b).0 h
@@ -25,14 +25,6 @@ pub record Shows (log : List LogLine) (key : List ℕ) (moment num : ℕ) : Type
   pub emitted : Among (record { moment = shown_at; entry = Emitted op num body near }) log
   pub on_key : is_on log key op ≡ true
   pub before : shown_at ≤ moment
-
--- whether an operation is on a key, by its sending
-pub on_true : (log : List LogLine) (key : List ℕ) (op : ℕ) → is_on log key op ≡ true → (s : At _) × (sending log op ≡ Some s) × (key ≡ s.what.key)
-on_true log key op h = go (sending log op) refl h
-  where
-    go : (o : Option (At _)) → sending log op ≡ o → sent_on key o ≡ true → (s : At _) × (sending log op ≡ Some s) × (key ≡ s.what.key)
-    go None e k = absurd cc
-    go (Some s) e k = (s, e, same_key_true key s.what.key k)
 
 pub on_sent : (log : List LogLine) (op : ℕ) (s : At _) → sending log op ≡ Some s → is_on log s.what.key op ≡ true
 on_sent log op s h = rw h (same_key_refl s.what.key)

@@ -1,4 +1,7 @@
 -- Replies of servers at the switch: the answer leaves, and the key's slot may take the record.
+use Rattle.far_invariants.specs.Numbers.{ExposedAtMostBy, ExposedAtMost, slot_if, entry, reach, IsWritten, WouldBeCurrent}
+use Rattle.far_invariants.specs.Covers.{look}
+use Rattle.far_invariants.specs.Operations.{EmitsOp, Absent, AdmitsOther, ServesOp, ReadIsReplied, WriteIsReplied, IsBeingAnswered, Relies, OperationsStand}
 use Rattle.far_model.specs.Coherent.{ReachesOwnNumber}
 use Rattle.std.proofs.Common.{◌≡◌, ◌≢◌, ℕ, ◌<◌, ◌≤◌, max, ◌⊎◌, inl, inr, Bool, true, false, List, [], ◌∷◌, refl, sym, ap, ◌∙◌, subst, arith, ltb-true, ltb-false}
 use Rattle.std.specs.Prelude.{Option, Some, None, if◌then◌else◌, ◌&&◌, nat_lt, nat_le, nat_eq}
@@ -12,14 +15,13 @@ use Rattle.far_base.specs.declared.packet.Out.{Out}
 use Rattle.far_base.specs.declared.packet.Packet.{Packet}
 use Rattle.far_base.specs.declared.party.Party.TheVariants.{Client}
 use Rattle.far_model.specs.Clients.{line_of}
-use Rattle.far_invariants.specs.Invariants.{look, entry, slot_if, reach, IsWritten, WouldBeCurrent, ExposedAtMostBy, ExposedAtMost}
 use Rattle.far_model.specs.Log.{is_read}
 use Rattle.far_model.specs.Members.{Each}
 use Rattle.far_model.specs.Pass.{Passed, sent_to, reply_passes, is_tag, takes_reply, absorbing, raised, with_slot, with_taken, part_of}
 use Rattle.far_model.specs.State.{State, now, noted, stepped}
 use Rattle.far_model.specs.View.{SlotView, SwitchView, slot_at, entry_place, is_taken, held_record}
 use Rattle.record_laws.proofs.Frame.{NotOn, shown_lasts, shown_by_lasts, shown_within, has_own_lasts}
-use Rattle.record_laws.proofs.Keeps.{EmitsOp, Absent, AdmitsOther, ServesOp, ReadIsReplied, WriteIsReplied, IsBeingAnswered, Relies, Keeps, part_relies, part_admits}
+use Rattle.record_laws.proofs.Keeps.{part_relies, part_admits}
 use Rattle.record_laws.proofs.Requests.{Its, reach_none, reach_latest, reach_outdated, written_still, sent_still, set_passes, not_left, answering}
 use Rattle.record_laws.proofs.Slots.{IsEntry, SetsSlot, entry_is, taken_sets, with_slot_sets, both}
 use Rattle.record_laws.proofs.Step.{AreOthers, GoesWell, AdmitsNone, PassesFor, passed_state, pass_keeps}
@@ -111,7 +113,7 @@ stays_latest tag num slot h l = go (ltb_tells slot.num num) (sym (ap (λ b. if b
     go (inl p) k = absurd (let e = sym p.0 ∙ k in cc)
     go (inr p) k = record { latest = l; as_new = p.1 }
 
-module _ (plan : PlanView) (s : State) (k : Keeps plan s) (runs : s.running ≡ true) (rest : List Message) (caller op : ℕ) (key : List ℕ) (others : AreOthers (Its op) s rest)
+module _ (plan : PlanView) (s : State) (k : OperationsStand plan s) (runs : s.running ≡ true) (rest : List Message) (caller op : ℕ) (key : List ℕ) (others : AreOthers (Its op) s rest)
     (tag : Option ℕ) (num : ℕ) (body shown : Option (List ℕ)) (near : Bool) (h : ReplyIs plan s caller op key tag num body shown) where
   abbrev note : List LogEntry
   note = Emitted op num shown near ∷ []
@@ -191,7 +193,7 @@ module _ (plan : PlanView) (s : State) (k : Keeps plan s) (runs : s.running ≡ 
   -- an answer that leaves so keeps everything
   leaves : (packet answer : Packet) → ((t : State) → IsBeingAnswered plan t caller op key → Relies plan t answer) → ((t : ℕ) → AdmitsOther t answer)
       → (w : SwitchView) (second : Option Out) → PassesFor plan s w note key → ((t : State) → GoesWell plan t second) → AdmitsNone second
-      → Keeps plan (passed_state s rest packet (record { view = w; first = sent_to (Client caller) answer; second = second }) note)
+      → OperationsStand plan (passed_state s rest packet (record { view = w; first = sent_to (Client caller) answer; second = second }) note)
   leaves packet answer flies none w second f goes admits =
       let p : Passed = record { view = w; first = sent_to (Client caller) answer; second = second } in
       let t : State = passed_state s rest packet p note in
@@ -221,10 +223,10 @@ module _ (plan : PlanView) (s : State) (k : Keeps plan s) (runs : s.running ≡ 
       (λ o n. n, tt) (tt, tt) (not_left plan s k runs rest caller op key others h.serves) (λ o n. n, tt)
 
   pub reply_keeps : (packet answer : Packet) → ((t : State) → IsBeingAnswered plan t caller op key → Relies plan t answer) → ((t : ℕ) → AdmitsOther t answer)
-      → Keeps plan (passed_state s rest packet (reply_passes s.switch tag num body (sent_to (Client caller) answer) (entry_place key s.switch)) note)
+      → OperationsStand plan (passed_state s rest packet (reply_passes s.switch tag num body (sent_to (Client caller) answer) (entry_place key s.switch)) note)
   reply_keeps packet answer flies none = place (entry_place key s.switch) refl
     where
-      absorbed : (i : ℕ) → entry_place key s.switch ≡ Some i → takes_reply tag num (slot_at s.switch i) ≡ true → (b : Bool) → Keeps plan (passed_state s rest packet (record {
+      absorbed : (i : ℕ) → entry_place key s.switch ≡ Some i → takes_reply tag num (slot_at s.switch i) ≡ true → (b : Bool) → OperationsStand plan (passed_state s rest packet (record {
         view = let slot = absorbing num body (slot_at s.switch i) in if b then with_slot s.switch i slot else with_taken (with_slot s.switch i slot) i (held_record (slot_at s.switch i));
         first = sent_to (Client caller) answer;
         second = if b then None else part_of s.switch i;
@@ -237,12 +239,12 @@ module _ (plan : PlanView) (s : State) (k : Keeps plan s) (runs : s.running ≡ 
           (absorbs (with_taken (with_slot s.switch i (absorbing num body (slot_at s.switch i))) i (held_record (slot_at s.switch i))) i e (taken_sets s.switch i (absorbing num body (slot_at s.switch i)) (entry_is key s.switch i e).within) taken)
           (λ t. (part_relies plan t s.switch i, λ tag. part_admits s.switch i tag)) (λ tag. part_admits s.switch i tag)
 
-      met : (i : ℕ) → entry_place key s.switch ≡ Some i → (b : Bool) → takes_reply tag num (slot_at s.switch i) ≡ b → Keeps plan (passed_state s rest packet (if b
+      met : (i : ℕ) → entry_place key s.switch ≡ Some i → (b : Bool) → takes_reply tag num (slot_at s.switch i) ≡ b → OperationsStand plan (passed_state s rest packet (if b
           then Rattle.far_model.specs.Pass.changes s.switch i (absorbing num body (slot_at s.switch i)) (sent_to (Client caller) answer)
           else record { view = with_slot s.switch i (raised num (slot_at s.switch i)); first = sent_to (Client caller) answer; second = None }) note)
       met i e true taken = absorbed i e taken (is_taken s.switch i)
       met i e false stays = leaves packet answer flies none (with_slot s.switch i (raised num (slot_at s.switch i))) None (raises i e stays) (λ t. tt) tt
 
-      place : (o : Option ℕ) → entry_place key s.switch ≡ o → Keeps plan (passed_state s rest packet (reply_passes s.switch tag num body (sent_to (Client caller) answer) o) note)
+      place : (o : Option ℕ) → entry_place key s.switch ≡ o → OperationsStand plan (passed_state s rest packet (reply_passes s.switch tag num body (sent_to (Client caller) answer) o) note)
       place None e = leaves packet answer flies none s.switch None (none_passes (ap (slot_if s.switch) e)) (λ t. tt) tt
       place (Some i) e = met i e (takes_reply tag num (slot_at s.switch i)) refl

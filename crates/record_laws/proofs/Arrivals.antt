@@ -1,12 +1,14 @@
 -- Admissions arrive: at the switch, which takes the key, and back at the controller.
+use Rattle.far_invariants.specs.Slots.{IsSlotOf, FitsState, IsGiven, AdmissionIs, is_admission_of, admits_under, admission_count}
+use Rattle.far_invariants.specs.Numbers.{slot_if, entry, reach_by}
+use Rattle.far_invariants.specs.Operations.{AdmitsOther, IsDrawn, Relies, OperationsStand}
 use Rattle.far_invariants.proofs.Keys.{key_cases}
 use Rattle.std.proofs.Common.{◌≡◌, ◌≢◌, ℕ, zero, suc, ◌<◌, ◌≤◌, ◌⊎◌, inl, inr, Bool, true, false, cond, List, [], ◌∷◌, ◌++◌, length, map, refl, sym, ap, ◌∙◌, subst, arith, eq-eqb, ne_eqb, eqb-true, lt-ltb}
 use Rattle.std.specs.Prelude.{Option, Some, None, if◌then◌else◌, ◌&&◌, nat_eq, nat_lt, slice_get}
 use Rattle.std.specs.List.{remove, count_by}
 use Rattle.std.proofs.lemmas.Option.{same_Some}
-use Rattle.std.proofs.lemmas.List.{length-set, get_or-set_same, get_or-set_other}
+use Rattle.std.proofs.lemmas.List.{length-set}
 use Rattle.far_base.specs.PlanView.{PlanView}
-use Rattle.far_base.specs.declared.log.LogEntry.TheVariants.{Admitted}
 use Rattle.far_base.specs.declared.packet.Message.{Message}
 use Rattle.far_base.specs.declared.packet.Packet.{Packet}
 use Rattle.far_base.specs.declared.packet.Packet.TheVariants.{Admit, AdmitAck}
@@ -14,13 +16,10 @@ use Rattle.far_base.specs.declared.party.Party.{Party}
 use Rattle.far_base.specs.declared.party.Party.TheVariants.{Switch, Controller}
 use Rattle.far_base.specs.declared.plan.Config.{Config}
 use Rattle.far_base.specs.declared.slot_state.SlotState.{SlotState}
-use Rattle.far_base.specs.declared.slot_state.SlotState.TheVariants.{Free, Admitting, Held}
-use Rattle.far_model.specs.Controller.{acknowledged, acked_state, with_state}
-use Rattle.far_model.specs.Events.{controller_turn, switch_turn}
-use Rattle.far_model.specs.Evictions.{state_at, is_admitting, key_in}
-use Rattle.far_invariants.specs.Invariants.{entry, slot_if, reach_by, IsSlotOf, FitsState, IsGiven, AdmissionIs, is_admission_of, admits_under, admission_count}
+use Rattle.far_base.specs.declared.slot_state.SlotState.TheVariants.{Admitting}
+use Rattle.far_model.specs.Events.{switch_turn}
+use Rattle.far_model.specs.Evictions.{state_at}
 use Rattle.far_model.specs.Members.{Among}
-use Rattle.far_model.specs.Parties.{idle}
 use Rattle.far_model.specs.Pass.{admits, dropped, is_slot_there, sent_to}
 use Rattle.far_model.specs.State.{State}
 use Rattle.far_model.specs.View.{SlotView, slot_at, entry_place, unbound}
@@ -29,7 +28,6 @@ use Rattle.record_laws.proofs.Admissions.{nat_cases}
 use Rattle.record_laws.proofs.Bindings.{length-map, new_slot, admit_view, view_here, view_there, place_here, entry_here, place_stays, entry_there}
 use Rattle.record_laws.proofs.Controls.{Controls, SlotSettles, slot_stays, controls_keep}
 use Rattle.record_laws.proofs.Deliveries.{counts_one}
-use Rattle.record_laws.proofs.Keeps.{AdmitsOther, IsDrawn, Relies, Keeps}
 use Rattle.record_laws.proofs.Seats.{counted, count_removed, count_append, count_one, owner, Seats, seats_last, unchanged_slots}
 use Rattle.record_laws.proofs.Slots.{both, IsEntry, entry_is}
 
@@ -52,7 +50,7 @@ none_left s n m p at hit most x a e =
 
 -- ---- at the switch
 
-module _ (plan : PlanView) (s : State) (k : Keeps plan s) (h : Seats plan s) (n : ℕ) (from to : Party) (epoch i : ℕ) (key : List ℕ) (tag : ℕ)
+module _ (plan : PlanView) (s : State) (k : OperationsStand plan s) (h : Seats plan s) (n : ℕ) (from to : Party) (epoch i : ℕ) (key : List ℕ) (tag : ℕ)
     (at : slice_get s.bag n ≡ Some (record { from = from; to = to; packet = Admit epoch i key tag })) where
   abbrev admission : Message
   admission = record { from = from; to = to; packet = Admit epoch i key tag }
@@ -155,7 +153,7 @@ module _ (plan : PlanView) (s : State) (k : Keeps plan s) (h : Seats plan s) (n 
         new_latest : (slot : SlotView) → new_slot key tag ≡ slot → slot.latest ≡ true → ⊥
         new_latest slot e l = let clash : false ≡ true = ap (λ (w : SlotView). w.latest) e ∙ l in cc
 
-    admitted_keeps : Keeps plan admitted_state
+    admitted_keeps : OperationsStand plan admitted_state
     admitted_keeps = controls_keep plan [] s admitted_state k controls (λ other. settles other (key_cases other key))
 
     admitted_sits : Seats plan admitted_state
@@ -235,7 +233,7 @@ module _ (plan : PlanView) (s : State) (k : Keeps plan s) (h : Seats plan s) (n 
             omega (arith, first, more, single, before)
 
   -- an admission of another epoch is dropped
-  dropped_keeps : Keeps plan (switch_turn s rest (Admit epoch i key tag) (dropped s.switch))
+  dropped_keeps : OperationsStand plan (switch_turn s rest (Admit epoch i key tag) (dropped s.switch))
   dropped_keeps = controls_keep plan [] s t k f (λ other. slot_stays plan [] s t k f other refl)
     where
       t : State
@@ -297,22 +295,22 @@ module _ (plan : PlanView) (s : State) (k : Keeps plan s) (h : Seats plan s) (n 
           let on : is_slot_there s.switch epoch i ≡ true = both_true (nat_eq epoch s.switch.epoch) (nat_lt i s.switch.config.slots) (eq-eqb epoch s.switch.epoch (same ∙ sym h.slots.epoch)) (lt-ltb i s.switch.config.slots (omega (arith, b, states, config))) in
           let clash : true ≡ false = sym on ∙ off in cc
 
-  pub admit_keeps : Keeps plan (switch_turn s rest (Admit epoch i key tag) (if is_slot_there s.switch epoch i then admits s.switch i key tag else dropped s.switch)) × Seats plan (switch_turn s rest (Admit epoch i key tag) (if is_slot_there s.switch epoch i then admits s.switch i key tag else dropped s.switch))
+  pub admit_keeps : OperationsStand plan (switch_turn s rest (Admit epoch i key tag) (if is_slot_there s.switch epoch i then admits s.switch i key tag else dropped s.switch)) × Seats plan (switch_turn s rest (Admit epoch i key tag) (if is_slot_there s.switch epoch i then admits s.switch i key tag else dropped s.switch))
   admit_keeps = go (is_slot_there s.switch epoch i) refl
     where
       taken : is_slot_there s.switch epoch i ≡ true → (b : Bool) → (slot_at s.switch i).valid ≡ b
-          → Keeps plan (switch_turn s rest (Admit epoch i key tag) (record { view = (admits s.switch i key tag).view; first = if b then None else sent_to Controller (AdmitAck i tag); second = None }))
+          → OperationsStand plan (switch_turn s rest (Admit epoch i key tag) (record { view = (admits s.switch i key tag).view; first = if b then None else sent_to Controller (AdmitAck i tag); second = None }))
           × Seats plan (switch_turn s rest (Admit epoch i key tag) (record { view = (admits s.switch i key tag).view; first = if b then None else sent_to Controller (AdmitAck i tag); second = None }))
       taken on true e = absurd (let clash : true ≡ false = sym e ∙ free on in cc)
       taken on false e = (admitted_keeps on, admitted_sits on)
 
-      go : (b : Bool) → is_slot_there s.switch epoch i ≡ b → Keeps plan (switch_turn s rest (Admit epoch i key tag) (if b then admits s.switch i key tag else dropped s.switch)) × Seats plan (switch_turn s rest (Admit epoch i key tag) (if b then admits s.switch i key tag else dropped s.switch))
+      go : (b : Bool) → is_slot_there s.switch epoch i ≡ b → OperationsStand plan (switch_turn s rest (Admit epoch i key tag) (if b then admits s.switch i key tag else dropped s.switch)) × Seats plan (switch_turn s rest (Admit epoch i key tag) (if b then admits s.switch i key tag else dropped s.switch))
       go true e = taken e (slot_at s.switch i).valid refl
       go false e = (dropped_keeps, dropped_sits e)
 
 -- ---- back at the controller
 
-module _ (plan : PlanView) (s : State) (k : Keeps plan s) (h : Seats plan s) (n : ℕ) (from to : Party) (i tag : ℕ)
+module _ (plan : PlanView) (s : State) (k : OperationsStand plan s) (h : Seats plan s) (n : ℕ) (from to : Party) (i tag : ℕ)
     (at : slice_get s.bag n ≡ Some (record { from = from; to = to; packet = AdmitAck i tag })) where
   abbrev answer : Message
   answer = record { from = from; to = to; packet = AdmitAck i tag }
@@ -320,123 +318,9 @@ module _ (plan : PlanView) (s : State) (k : Keeps plan s) (h : Seats plan s) (n 
   abbrev left_over : List Message
   left_over = remove s.bag n
 
-  abbrev held_state : State
-  held_state = controller_turn s left_over (record { state = with_state s.controller i (acked_state (state_at s.controller.slots i)); out = []; notes = Admitted i (key_in (state_at s.controller.slots i)) tag ∷ [] })
-
   its_state : AdmissionIs s (AdmitAck i tag)
   its_state = h.admissions.packets _ (among_at _ s.bag n at)
 
   lone : (m : Message) → Among m left_over → is_admission_of i s.controller.epoch m.packet ≡ true → ⊥
   lone m a e = none_left s n answer (λ q. is_admission_of i s.controller.epoch q) at (eq-eqb i i refl)
       (let one = h.admissions.one i in let is : admission_count (state_at s.controller.slots i) ≡ 1 = ap admission_count its_state.1 in omega (arith, one, is)) m a e
-
-  now_held : state_at held_state.controller.slots i ≡ Held its_state.0 tag
-  now_held = get_or-set_same s.controller.slots i (acked_state (state_at s.controller.slots i)) Free (state_within s.controller.slots i its_state.0 tag its_state.1) ∙ ap acked_state its_state.1
-
-  others_held : (j : ℕ) → j ≢ i → state_at held_state.controller.slots j ≡ state_at s.controller.slots j
-  others_held j ne = get_or-set_other s.controller.slots i j (acked_state (state_at s.controller.slots i)) Free ne
-
-  held_keeps : Keeps plan held_state
-  held_keeps = controls_keep plan (Admitted i (key_in (state_at s.controller.slots i)) tag ∷ []) s held_state k f (λ other. slot_stays plan (Admitted i (key_in (state_at s.controller.slots i)) tag ∷ []) s held_state k f other refl)
-    where
-      message : (m : Message) → Among m left_over ⊎ Among m [] → Among m s.bag
-      message m (inl a) = among_remove m s.bag n a
-      message m (inr a) = absurd a
-
-      f : Controls plan (Admitted i (key_in (state_at s.controller.slots i)) tag ∷ []) s held_state
-      f = record {
-        log = refl;
-        notes_are = (tt, tt);
-        steps = refl;
-        running = λ e. e;
-        config = refl;
-        counter = omega arith;
-        servers = refl;
-        waits = λ d. refl;
-        left = λ d. refl;
-        tags = omega arith;
-        bag = λ m a. inl (message m (among_append m left_over [] a));
-      }
-
-  -- what the slot is given to stays
-  given_before : (j : ℕ) (key : List ℕ) (own : ℕ) → (j ≡ i) ⊎ (j ≢ i) → IsGiven key own (state_at held_state.controller.slots j) → IsGiven key own (state_at s.controller.slots j)
-  given_before j key own (inl e) g =
-      let mine : IsGiven key own (Held its_state.0 tag) = subst (IsGiven key own) now_held (subst (λ q. IsGiven key own (state_at held_state.controller.slots q)) e g) in
-      subst (λ q. IsGiven key own (state_at s.controller.slots q)) (sym e) (subst (IsGiven key own) (sym its_state.1) mine)
-  given_before j key own (inr ne) g = subst (IsGiven key own) (others_held j ne) g
-
-  held_sits : Seats plan held_state
-  held_sits = record {
-    running = h.running;
-    slots = record {
-      epoch = h.slots.epoch;
-      bounds = h.slots.bounds;
-      slots = h.slots.slots;
-      states = length-set s.controller.slots i _ ∙ h.slots.states;
-      fits = λ j. fits j (nat_cases j i);
-      apart = λ a b x y own own' ne g g'. h.slots.apart a b x y own own' ne (given_before a x own (nat_cases a i) g) (given_before b y own' (nat_cases b i) g');
-      drawn = λ j key own g. h.slots.drawn j key own (given_before j key own (nat_cases j i) g);
-      owned = h.slots.owned;
-    };
-    admissions = record {
-      packets = λ m a. packet m (among_append m left_over [] a);
-      one = λ j. one j (nat_cases i j);
-      once = λ own.
-          let first = count_removed (λ (m : Message). admits_under own m.packet) s.bag n answer at in
-          let more = count_append (λ (m : Message). admits_under own m.packet) left_over [] in
-          let none : count_by (λ (m : Message). admits_under own m.packet) [] ≡ 0 = refl in
-          let before = h.admissions.once own in
-          omega (arith, first, more, none, before);
-    };
-  }
-    where
-      valid_one : (slot : SlotView) → (slot.valid ≡ false) ⊎ IsSlotOf its_state.0 tag slot → slot.valid ≡ true → IsSlotOf its_state.0 tag slot
-      valid_one slot (inl off) on = absurd (let clash : true ≡ false = sym on ∙ off in cc)
-      valid_one slot (inr is) on = is
-
-      fits : (j : ℕ) → (j ≡ i) ⊎ (j ≢ i) → FitsState (slot_at s.switch j) (state_at held_state.controller.slots j)
-      fits j (inl e) =
-          let before : FitsState (slot_at s.switch i) (Admitting its_state.0 tag) = subst (FitsState (slot_at s.switch i)) its_state.1 (h.slots.fits i) in
-          subst (λ q. FitsState (slot_at s.switch q) (state_at held_state.controller.slots q)) (sym e) (subst (FitsState (slot_at s.switch i)) (sym now_held) (valid_one (slot_at s.switch i) before its_state.2))
-      fits j (inr ne) = subst (FitsState (slot_at s.switch j)) (sym (others_held j ne)) (h.slots.fits j)
-
-      still : (q : Packet) → (is_admission_of i s.controller.epoch q ≡ true → ⊥) → AdmissionIs s q → AdmissionIs held_state q
-      still (Admit e j other own) none a = (
-        a.0,
-        λ same.
-            let ne : j ≢ i = (λ eq. none (both_true (nat_eq e s.controller.epoch) (nat_eq j i) (eq-eqb e s.controller.epoch same) (eq-eqb j i eq))) in
-            let f = a.1 same in (others_held j ne ∙ f.0, f.1),
-      )
-      still (AdmitAck j own) none a = let ne : j ≢ i = (λ eq. none (eq-eqb j i eq)) in (a.0, others_held j ne ∙ a.1, a.2)
-      still _ none a = tt
-
-      packet : (m : Message) → Among m left_over ⊎ Among m [] → AdmissionIs held_state m.packet
-      packet m (inl a) = still m.packet (lone m a) (h.admissions.packets m (among_remove m s.bag n a))
-      packet m (inr a) = absurd a
-
-      one : (j : ℕ) → (i ≡ j) ⊎ (i ≢ j) → count_by (λ (m : Message). is_admission_of j s.controller.epoch m.packet) (left_over ++ []) ≡ admission_count (state_at held_state.controller.slots j)
-      one j (inl e) =
-          let first = count_removed (λ (m : Message). is_admission_of j s.controller.epoch m.packet) s.bag n answer at in
-          let gone : counted (λ (m : Message). is_admission_of j s.controller.epoch m.packet) answer ≡ 1 = ap (λ b. cond {A = ℕ} b 1 0) (eq-eqb i j e) in
-          let more = count_append (λ (m : Message). is_admission_of j s.controller.epoch m.packet) left_over [] in
-          let none : count_by (λ (m : Message). is_admission_of j s.controller.epoch m.packet) [] ≡ 0 = refl in
-          let before : count_by (λ (m : Message). is_admission_of j s.controller.epoch m.packet) s.bag ≡ 1 = h.admissions.one j ∙ ap (λ q. admission_count (state_at s.controller.slots q)) (sym e) ∙ ap admission_count its_state.1 in
-          let after : admission_count (state_at held_state.controller.slots j) ≡ 0 = ap (λ q. admission_count (state_at held_state.controller.slots q)) (sym e) ∙ ap admission_count now_held in
-          omega (arith, first, gone, more, none, before, after)
-      one j (inr ne) =
-          let first = count_removed (λ (m : Message). is_admission_of j s.controller.epoch m.packet) s.bag n answer at in
-          let gone : counted (λ (m : Message). is_admission_of j s.controller.epoch m.packet) answer ≡ 0 = ap (λ b. cond {A = ℕ} b 1 0) (ne_eqb i j ne) in
-          let more = count_append (λ (m : Message). is_admission_of j s.controller.epoch m.packet) left_over [] in
-          let none : count_by (λ (m : Message). is_admission_of j s.controller.epoch m.packet) [] ≡ 0 = refl in
-          let before = h.admissions.one j in
-          let after : admission_count (state_at held_state.controller.slots j) ≡ admission_count (state_at s.controller.slots j) = ap admission_count (others_held j (λ e. ne (sym e))) in
-          omega (arith, first, gone, more, none, before, after)
-
-  pub ack_keeps : Keeps plan (controller_turn s left_over (acknowledged s.controller i tag)) × Seats plan (controller_turn s left_over (acknowledged s.controller i tag))
-  ack_keeps = go (is_admitting tag (state_at s.controller.slots i)) (ap (is_admitting tag) its_state.1 ∙ eq-eqb tag tag refl)
-    where
-      go : (b : Bool) → b ≡ true
-          → Keeps plan (controller_turn s left_over (if b then record { state = with_state s.controller i (acked_state (state_at s.controller.slots i)); out = []; notes = Admitted i (key_in (state_at s.controller.slots i)) tag ∷ [] } else idle s.controller))
-          × Seats plan (controller_turn s left_over (if b then record { state = with_state s.controller i (acked_state (state_at s.controller.slots i)); out = []; notes = Admitted i (key_in (state_at s.controller.slots i)) tag ∷ [] } else idle s.controller))
-      go true e = (held_keeps, held_sits)
-      go false e = absurd cc

@@ -1,4 +1,5 @@
 -- A key is bound to a slot.
+use Rattle.far_invariants.specs.Numbers.{slot_if, entry}
 use Rattle.far_invariants.proofs.Keys.{same_key_refl, same_key_false}
 use Rattle.std.proofs.Common.{◌≡◌, ◌≢◌, ℕ, zero, suc, ◌<◌, Bool, true, false, List, [], ◌∷◌, length, map, set, get_or, refl, sym, ap, ◌∙◌, arith}
 use Rattle.std.specs.Prelude.{Option, Some, None, if◌then◌else◌}
@@ -6,7 +7,6 @@ use Rattle.std.proofs.lemmas.Option.{same_Some}
 use Rattle.std.proofs.lemmas.List.{get_or-set_same, get_or-set_other}
 use Rattle.far_model.specs.View.{SlotView, SwitchView, slot_at, empty_slot, is_key_there, next_place, bound_place, unbound, is_slot_of, entry_if, entry_place}
 use Rattle.far_model.specs.Pass.{admits, admitted}
-use Rattle.far_invariants.specs.Invariants.{entry, slot_if}
 use Rattle.record_laws.proofs.Slots.{there_is, bound_there, both, IsEntry, entry_is}
 
 pub length-map : {A B : Type 0} (f : A → B) (xs : List A) → length (map f xs) ≡ length xs

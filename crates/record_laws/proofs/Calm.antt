@@ -1,4 +1,6 @@
 -- Steps in which no operation and no admission moves: they leave all as it was.
+use Rattle.far_invariants.specs.Numbers.{entry}
+use Rattle.far_invariants.specs.Operations.{AdmitsOther, IsDrawn, Relies, OperationsStand}
 use Rattle.std.proofs.Common.{◌≡◌, ℕ, ◌⊎◌, inl, inr, Bool, true, false, cond, List, ◌++◌, refl, sym, ap, ◌∙◌, subst, arith}
 use Rattle.std.specs.Prelude.{Some, slice_get}
 use Rattle.std.specs.List.{remove, count_by}
@@ -6,14 +8,12 @@ use Rattle.far_base.specs.PlanView.{PlanView}
 use Rattle.far_base.specs.declared.log.LogEntry.{LogEntry}
 use Rattle.far_base.specs.declared.packet.Message.{Message}
 use Rattle.far_base.specs.declared.packet.Packet.{Packet}
-use Rattle.far_base.specs.declared.packet.Packet.TheVariants.{GetReq, WriteReq, GetFwd, WriteFwd, GetRep, WriteRep, GetAns, WriteAns, Hot, Admit, AdmitAck, SnapStart, SnapBegun, SnapRead, SnapPart, Release, Ask, Told, TopAsk, TopIs, SnapSame, SnapFrom}
-use Rattle.far_invariants.specs.Invariants.{entry}
+use Rattle.far_base.specs.declared.packet.Packet.TheVariants.{GetReq, WriteReq, GetFwd, WriteFwd, GetRep, WriteRep, GetAns, WriteAns, Hot, Admit, SnapStart, SnapBegun, SnapRead, SnapPart, Release, Ask, Told, TopAsk, TopIs, SnapSame, SnapFrom}
 use Rattle.far_model.specs.Members.{Among, Each}
 use Rattle.far_model.specs.State.{State, client_at, now, noted}
 use Rattle.far_model.proofs.Members.{among_append, among_remove}
 use Rattle.record_laws.proofs.Controls.{IsControlNote, Controls, slot_stays, controls_keep}
-use Rattle.record_laws.proofs.Keeps.{AdmitsOther, IsDrawn, Relies, Keeps}
-use Rattle.record_laws.proofs.Seats.{counted, count_removed, count_append, count_none, is_admission_packet, Seats, same_seats, unchanged_slots, seats_last}
+use Rattle.record_laws.proofs.Seats.{counted, count_removed, is_admission_packet}
 
 -- a packet of snapshots, of recovery, or of a hot key
 abbrev pub is_plain : Packet → Bool
@@ -45,11 +45,6 @@ plain_relies plan s _ h = tt
 pub plain_admits : (p : Packet) (tag : ℕ) → is_plain p ≡ true → AdmitsOther tag p
 plain_admits (Admit epoch i key own) tag h = absurd cc
 plain_admits _ tag h = tt
-
-pub plain_none : (p : Packet) → is_plain p ≡ true → is_admission_packet p ≡ false
-plain_none (Admit epoch i key own) h = absurd cc
-plain_none (AdmitAck i tag) h = absurd cc
-plain_none _ h = refl
 
 -- what stays of the bag: all that moves an admission
 pub record IsRest (s : State) (rest : List Message) : Type 0 where
@@ -91,7 +86,7 @@ module _ (plan : PlanView) (notes : List LogEntry) (s t : State) (rest new : Lis
   calm_entry : (key : List ℕ) → entry key t.switch ≡ entry key s.switch
   calm_entry key = ap (λ b. entry key (record s.switch { bound = b; slots = t.switch.slots })) c.bound ∙ ap (λ l. entry key (record s.switch { slots = l })) c.slots
 
-  pub calm_keeps : Keeps plan s → Keeps plan t
+  pub calm_keeps : OperationsStand plan s → OperationsStand plan t
   calm_keeps k = controls_keep plan notes s t k f (λ key. slot_stays plan notes s t k f key (calm_entry key))
     where
       message : (m : Message) → Among m rest ⊎ Among m new → Among m s.bag ⊎ (Relies plan t m.packet × ((tag : ℕ) → IsDrawn s tag → AdmitsOther tag m.packet))
@@ -112,17 +107,3 @@ module _ (plan : PlanView) (notes : List LogEntry) (s t : State) (rest new : Lis
         tags = let e = c.tags in omega (arith, e);
         bag = λ m a. message m (among_append m rest new (subst (λ w. Among m w) c.bag a));
       }
-
-  pub calm_seats : Seats plan s → Seats plan t
-  calm_seats h = seats_last plan s t h (same_seats s t c.running (unchanged_slots s.switch t.switch c.bound c.switch_epoch c.slots) c.epoch c.states (let e = c.tags in omega (arith, e)) (record {
-    news = λ m a. news m (among_append m rest new (subst (λ w. Among m w) c.bag a));
-    count = λ p none.
-        let more = count_append (λ (m : Message). p m.packet) rest new in
-        let nothing = count_none (λ (m : Message). p m.packet) new (λ n a. none n.packet (plain_none n.packet (c.plain n a))) in
-        let kept = r.count p none in
-        ap (λ l. count_by (λ (m : Message). p m.packet) l) c.bag ∙ omega (arith, more, nothing, kept);
-  }))
-    where
-      news : (m : Message) → Among m rest ⊎ Among m new → Among m s.bag ⊎ (is_admission_packet m.packet ≡ false)
-      news m (inl a) = inl (r.among m a)
-      news m (inr a) = inr (plain_none m.packet (c.plain m a))

@@ -1,4 +1,6 @@
 -- What the invariants say of the log: it is coherent.
+use Rattle.far_invariants.specs.Numbers.{ExposedAtMostBy, IsNumberOf}
+use Rattle.far_invariants.specs.Operations.{AnswerStands, LineStands, OperationsStand}
 use Rattle.far_invariants.proofs.Keys.{same_key_true}
 use Rattle.std.proofs.Common.{◌≡◌, ℕ, ◌≤◌, inl, inr, Bool, true, false, List, [], ◌∷◌, refl, sym, ap, ◌∙◌, subst, arith, leb-true, eqb-true}
 use Rattle.std.specs.Prelude.{Option, Some, None, if◌then◌else◌, ◌==◌, nat_le}
@@ -10,11 +12,9 @@ use Rattle.far_base.specs.declared.log.LogLine.{LogLine}
 use Rattle.far_base.specs.declared.plan.OpLine.{OpLine}
 use Rattle.far_model.specs.Clients.{line_of}
 use Rattle.far_model.specs.Coherent.{Stands, IsCoherent, WasWritten, IsEmission}
-use Rattle.far_invariants.specs.Invariants.{IsNumberOf, ExposedAtMostBy}
 use Rattle.far_model.specs.Log.{At, first_told, or_later, sent_by, sending, sent_on, is_on, exposed, number_exposed, greatest_exposed}
 use Rattle.far_model.specs.Members.{Among}
 use Rattle.far_model.specs.State.{State, line_at}
-use Rattle.record_laws.proofs.Keeps.{LineStands, AnswerStands, Keeps}
 
 -- ---- what is exposed is what the lines show
 
@@ -61,7 +61,7 @@ shown_most on moment n (l ∷ ls) h =
     go true e = h l (inl refl) (leb-true l.moment moment e)
     go false e = omega arith
 
-pub exposed_most : (plan : PlanView) (s : State) → Keeps plan s → (key : List ℕ) (moment n : ℕ) → ExposedAtMostBy plan s.log key moment n → exposed s.log key moment ≤ n
+pub exposed_most : (plan : PlanView) (s : State) → OperationsStand plan s → (key : List ℕ) (moment n : ℕ) → ExposedAtMostBy plan s.log key moment n → exposed s.log key moment ≤ n
 exposed_most plan s k key moment n h = shown_most (is_on s.log key) moment n s.log (λ l a b. line l.entry l.moment a b)
   where
     line : (entry : LogEntry) (at : ℕ) → Among (line_at at entry) s.log → at ≤ moment → number_exposed (is_on s.log key) entry ≤ n
@@ -80,7 +80,7 @@ exposed_most plan s k key moment n h = shown_most (is_on s.log key) moment n s.l
 
 -- ---- the log is coherent
 
-was_written : (plan : PlanView) (s : State) → Keeps plan s → (moment : ℕ) (key : List ℕ) (num : ℕ) (body : Option (List ℕ)) → IsNumberOf plan s.log moment key num body → WasWritten s.log moment key num body
+was_written : (plan : PlanView) (s : State) → OperationsStand plan s → (moment : ℕ) (key : List ℕ) (num : ℕ) (body : Option (List ℕ)) → IsNumberOf plan s.log moment key num body → WasWritten s.log moment key num body
 was_written plan s k moment key num body h =
     let stands = (k.lines _ h.own.numbered).stands in
     record {
@@ -96,7 +96,7 @@ was_written plan s k moment key num body h =
       same_body = h.same_body;
     }
 
-emission : (plan : PlanView) (s : State) → Keeps plan s → (moment op num : ℕ) (body : Option (List ℕ)) (near : Bool) → AnswerStands plan s moment op num body near → IsEmission s.log moment op num body
+emission : (plan : PlanView) (s : State) → OperationsStand plan s → (moment op num : ℕ) (body : Option (List ℕ)) (near : Bool) → AnswerStands plan s moment op num body near → IsEmission s.log moment op num body
 emission plan s k moment op num body near h = record {
   sent = record { sent_at = h.sent.sent_at; line = line_of plan.ops op; sent = h.sent.sent; before = h.sent.before };
   source = λ above. (h.written, subst (λ key. WasWritten s.log moment key num h.written) (sym h.on_key) (was_written plan s k moment h.key num h.written (h.source.some above)), h.same);
@@ -105,7 +105,7 @@ emission plan s k moment op num body near h = record {
   write = h.own;
 }
 
-stands : (plan : PlanView) (s : State) → Keeps plan s → (moment : ℕ) (entry : LogEntry) → LineStands plan s moment entry → Stands s.log moment entry
+stands : (plan : PlanView) (s : State) → OperationsStand plan s → (moment : ℕ) (entry : LogEntry) → LineStands plan s moment entry → Stands s.log moment entry
 stands plan s k moment (Numbered op num) h = record {
   sent = record { sent_at = h.sent.sent_at; line = line_of plan.ops op; sent = h.sent.sent; before = h.sent.before };
   write = h.write;
@@ -115,5 +115,5 @@ stands plan s k moment (Emitted op num body near) h = emission plan s k moment o
 stands plan s k moment (Answered op) h = h
 stands plan s k moment _ h = tt
 
-pub coherent : (plan : PlanView) (s : State) → Keeps plan s → IsCoherent s.log
+pub coherent : (plan : PlanView) (s : State) → OperationsStand plan s → IsCoherent s.log
 coherent plan s k = record { order = k.order; lines = λ l a. stands plan s k l.moment l.entry (k.lines l a).stands }

@@ -1,4 +1,7 @@
 -- Steps that touch no operation: they keep everything where slots, servers and clients have what they had.
+use Rattle.far_invariants.specs.Numbers.{ExposedAtMost, entry, reach_by, reach, IsWritten}
+use Rattle.far_invariants.specs.Covers.{look}
+use Rattle.far_invariants.specs.Operations.{AdmitsOther, IsDrawn, Relies, IsOpenOrAnswered, OperationsStand}
 use Rattle.far_invariants.proofs.Noted.{member}
 use Rattle.far_base.specs.declared.record.Versioned.{Versioned}
 use Rattle.std.proofs.Common.{◌≡◌, ℕ, ◌≤◌, max, ◌⊎◌, inl, inr, true, false, List, [], ◌∷◌, length, sym, ap, ◌∙◌, subst, arith}
@@ -9,12 +12,10 @@ use Rattle.far_base.specs.declared.log.LogEntry.TheVariants.{Sent, Numbered, Emi
 use Rattle.far_base.specs.declared.packet.Message.{Message}
 use Rattle.far_model.specs.Clients.{line_of}
 use Rattle.far_model.specs.Coherent.{Rises}
-use Rattle.far_invariants.specs.Invariants.{look, entry, reach, reach_by, IsWritten, ExposedAtMost}
 use Rattle.far_model.specs.Members.{Among, Each, Pairs}
 use Rattle.far_model.specs.State.{State, client_at, now, noted}
 use Rattle.far_model.specs.View.{SlotView}
 use Rattle.record_laws.proofs.Frame.{counted_on, AboutMine, NotOn, off_shows_each, shown_lasts, shown_within, Grows, written_lasts, left_lasts}
-use Rattle.record_laws.proofs.Keeps.{AdmitsOther, IsDrawn, Relies, IsOpenOrAnswered, Keeps}
 use Rattle.record_laws.proofs.Step.{IsOther, NoteIs, IsNoSending, sent_before, next}
 
 -- an entry that is of no operation
@@ -101,7 +102,7 @@ drawn_on plan notes s t c tag d = record { below = let b = d.below in let more =
     go m (inr n) = n.1 tag d
 
 -- a slot that stays as it is
-pub slot_stays : (plan : PlanView) (notes : List LogEntry) (s t : State) → Keeps plan s → Controls plan notes s t → (key : List ℕ) → entry key t.switch ≡ entry key s.switch → SlotSettles plan s t key
+pub slot_stays : (plan : PlanView) (notes : List LogEntry) (s t : State) → OperationsStand plan s → Controls plan notes s t → (key : List ℕ) → entry key t.switch ≡ entry key s.switch → SlotSettles plan s t key
 slot_stays plan notes s t k c key same = record {
   reach = λ n. ap (reach_by n) same;
   drawn = λ slot is. drawn_on plan notes s t c slot.tag (k.slots key slot (sym same ∙ is)).drawn;
@@ -109,7 +110,7 @@ slot_stays plan notes s t k c key same = record {
   current = λ tag slot d is old under. sym same ∙ is;
 }
 
-pub controls_keep : (plan : PlanView) (notes : List LogEntry) (s t : State) → Keeps plan s → Controls plan notes s t → ((key : List ℕ) → SlotSettles plan s t key) → Keeps plan t
+pub controls_keep : (plan : PlanView) (notes : List LogEntry) (s t : State) → OperationsStand plan s → Controls plan notes s t → ((key : List ℕ) → SlotSettles plan s t key) → OperationsStand plan t
 controls_keep plan notes s t k c settles =
     next plan Nobody notes s t k g (each_to IsControlNote (NoteIs plan Nobody s t) notes (note_is plan s t) c.notes_are) (notes_rise notes c.notes_are)
     (λ m a. message m (c.bag m a)) (record {

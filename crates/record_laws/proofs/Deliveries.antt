@@ -1,4 +1,5 @@
 -- Deliveries of the packets of operations.
+use Rattle.far_invariants.specs.Operations.{ServesOp, OperationsStand}
 use Rattle.std.proofs.Common.{◌≡◌, ℕ, suc, ◌<◌, Bool, true, false, cond, List, refl, sym, ap, ◌∙◌, subst, arith, eq-eqb}
 use Rattle.std.specs.Prelude.{Option, Some, None, if◌then◌else◌, slice_get, get_or, ◌||◌, not}
 use Rattle.std.specs.List.{remove, count_by}
@@ -21,7 +22,6 @@ use Rattle.far_model.specs.State.{State}
 use Rattle.far_model.specs.View.{SwitchView, slot_at, entry_place}
 use Rattle.far_model.proofs.Members.{among_at, among_remove, place_of}
 use Rattle.record_laws.proofs.Answers.{read_reply, write_reply, reply_keeps}
-use Rattle.record_laws.proofs.Keeps.{ServesOp, Keeps}
 use Rattle.record_laws.proofs.Requests.{Its, read_keeps, write_keeps}
 use Rattle.record_laws.proofs.Scripts.{serves_some, read_answered, write_answered}
 use Rattle.record_laws.proofs.Step.{AreOthers, passed_state}
@@ -42,7 +42,7 @@ counts_one p xs y a e =
     omega (arith, h)
 
 -- the messages that stay are of other operations than the one that is delivered
-pub rest_others : (plan : PlanView) (s : State) → Keeps plan s → OneFlightPerOperation s → (i : ℕ) (m : Message) (caller op : ℕ) (key : List ℕ) → slice_get s.bag i ≡ Some m
+pub rest_others : (plan : PlanView) (s : State) → OperationsStand plan s → OneFlightPerOperation s → (i : ℕ) (m : Message) (caller op : ℕ) (key : List ℕ) → slice_get s.bag i ≡ Some m
     → subject m.packet ≡ OfOperation caller op → ServesOp plan s caller op key → AreOthers (Its op) s (remove s.bag i)
 rest_others plan s k one i m caller op key at is serves = λ m' a. (among_remove m' s.bag i a, λ c o e same. clash m' a c o e same)
   where
@@ -73,37 +73,37 @@ pub runs_to : (running : Bool) (to : Party) → (running || not (is_switch to)) 
 runs_to true to h e = refl
 runs_to false to h e = absurd (let f : not (is_switch to) ≡ false = ap (λ w. not (is_switch w)) e in let g : true ≡ false = sym h ∙ f in cc)
 
-module _ (plan : PlanView) (s : State) (k : Keeps plan s) (one : OneFlightPerOperation s) (routed : IsRouted plan s) (i : ℕ) (records : List Record) where
+module _ (plan : PlanView) (s : State) (k : OperationsStand plan s) (one : OneFlightPerOperation s) (routed : IsRouted plan s) (i : ℕ) (records : List Record) where
   operation_keeps : (from to : Party) (p : Packet) → slice_get s.bag i ≡ Some (record { from = from; to = to; packet = p }) → (s.running || not (is_switch to)) ≡ true → is_operation (subject p) ≡ true
-      → Keeps plan (handled plan (record { reply = reply_at s to p; records = records }) s (remove s.bag i) to p)
+      → OperationsStand plan (handled plan (record { reply = reply_at s to p; records = records }) s (remove s.bag i) to p)
   operation_keeps from to (GetReq caller op key) at can is =
       let a = among_at _ s.bag i at in
       let goes : to ≡ Switch = (routed.messages _ a).target in
       let h = k.relies _ a in
-      subst (λ w. Keeps plan (handled plan (record { reply = reply_at s w (GetReq caller op key); records = records }) s (remove s.bag i) w (GetReq caller op key))) (sym goes)
+      subst (λ w. OperationsStand plan (handled plan (record { reply = reply_at s w (GetReq caller op key); records = records }) s (remove s.bag i) w (GetReq caller op key))) (sym goes)
       (read_keeps plan s k (runs_to s.running to can goes) (remove s.bag i) caller op key (rest_others plan s k one i _ caller op key at refl h.serves) h)
   operation_keeps from to (WriteReq caller op key body) at can is =
       let a = among_at _ s.bag i at in
       let goes : to ≡ Switch = (routed.messages _ a).target in
       let h = k.relies _ a in
-      subst (λ w. Keeps plan (handled plan (record { reply = reply_at s w (WriteReq caller op key body); records = records }) s (remove s.bag i) w (WriteReq caller op key body))) (sym goes)
+      subst (λ w. OperationsStand plan (handled plan (record { reply = reply_at s w (WriteReq caller op key body); records = records }) s (remove s.bag i) w (WriteReq caller op key body))) (sym goes)
       (write_keeps plan s k (runs_to s.running to can goes) (remove s.bag i) caller op key (rest_others plan s k one i _ caller op key at refl h.serves) body h)
   operation_keeps from to (GetFwd caller op key tag) at can is =
       let a = among_at _ s.bag i at in
       let h = k.relies _ a in
-      subst (λ w. Keeps plan (handled plan (record { reply = reply_at s w (GetFwd caller op key tag); records = records }) s (remove s.bag i) w (GetFwd caller op key tag))) (sym (routed.messages _ a).target)
+      subst (λ w. OperationsStand plan (handled plan (record { reply = reply_at s w (GetFwd caller op key tag); records = records }) s (remove s.bag i) w (GetFwd caller op key tag))) (sym (routed.messages _ a).target)
       (read_served plan s k (remove s.bag i) caller op key (rest_others plan s k one i _ caller op key at refl h.serves) tag h)
   operation_keeps from to (WriteFwd caller op key num body) at can is =
       let a = among_at _ s.bag i at in
       let h = k.relies _ a in
-      subst (λ w. Keeps plan (handled plan (record { reply = reply_at s w (WriteFwd caller op key num body); records = records }) s (remove s.bag i) w (WriteFwd caller op key num body))) (sym (routed.messages _ a).target)
+      subst (λ w. OperationsStand plan (handled plan (record { reply = reply_at s w (WriteFwd caller op key num body); records = records }) s (remove s.bag i) w (WriteFwd caller op key num body))) (sym (routed.messages _ a).target)
       (write_served plan s k (remove s.bag i) caller op key (rest_others plan s k one i _ caller op key at refl h.serves) num body h)
   operation_keeps from to (GetRep caller op key tag num body) at can is =
       let a = among_at _ s.bag i at in
       let goes : to ≡ Switch = (routed.messages _ a).target in
       let h = k.relies _ a in
-      subst (λ w. Keeps plan (handled plan (record { reply = reply_at s w (GetRep caller op key tag num body); records = records }) s (remove s.bag i) w (GetRep caller op key tag num body))) (sym goes)
-      (subst (λ notes. Keeps plan (passed_state s (remove s.bag i) (GetRep caller op key tag num body) (reply_passes s.switch (Some tag) num body (sent_to (Client caller) (GetAns caller op key num body false)) (entry_place key s.switch)) notes))
+      subst (λ w. OperationsStand plan (handled plan (record { reply = reply_at s w (GetRep caller op key tag num body); records = records }) s (remove s.bag i) w (GetRep caller op key tag num body))) (sym goes)
+      (subst (λ notes. OperationsStand plan (passed_state s (remove s.bag i) (GetRep caller op key tag num body) (reply_passes s.switch (Some tag) num body (sent_to (Client caller) (GetAns caller op key num body false)) (entry_place key s.switch)) notes))
       (sym (ap emitted_notes (reply_first s.switch (Some tag) num body (sent_to (Client caller) (GetAns caller op key num body false)) (entry_place key s.switch))))
       (reply_keeps plan s k (runs_to s.running to can goes) (remove s.bag i) caller op key (rest_others plan s k one i _ caller op key at refl h.serves) (Some tag) num body body false
       (read_reply plan s caller op key tag num body h) (GetRep caller op key tag num body) (GetAns caller op key num body false) (λ t f. f) (λ t. tt)))
@@ -111,8 +111,8 @@ module _ (plan : PlanView) (s : State) (k : Keeps plan s) (one : OneFlightPerOpe
       let a = among_at _ s.bag i at in
       let goes : to ≡ Switch = (routed.messages _ a).target in
       let h = k.relies _ a in
-      subst (λ w. Keeps plan (handled plan (record { reply = reply_at s w (WriteRep caller op key num body); records = records }) s (remove s.bag i) w (WriteRep caller op key num body))) (sym goes)
-      (subst (λ notes. Keeps plan (passed_state s (remove s.bag i) (WriteRep caller op key num body) (reply_passes s.switch None num body (sent_to (Client caller) (WriteAns caller op key num false)) (entry_place key s.switch)) notes))
+      subst (λ w. OperationsStand plan (handled plan (record { reply = reply_at s w (WriteRep caller op key num body); records = records }) s (remove s.bag i) w (WriteRep caller op key num body))) (sym goes)
+      (subst (λ notes. OperationsStand plan (passed_state s (remove s.bag i) (WriteRep caller op key num body) (reply_passes s.switch None num body (sent_to (Client caller) (WriteAns caller op key num false)) (entry_place key s.switch)) notes))
       (sym (ap emitted_notes (reply_first s.switch None num body (sent_to (Client caller) (WriteAns caller op key num false)) (entry_place key s.switch))))
       (reply_keeps plan s k (runs_to s.running to can goes) (remove s.bag i) caller op key (rest_others plan s k one i _ caller op key at refl h.serves) None num body None false
       (write_reply plan s caller op key num body h) (WriteRep caller op key num body) (WriteAns caller op key num false) (λ t f. f) (λ t. tt)))
@@ -120,16 +120,16 @@ module _ (plan : PlanView) (s : State) (k : Keeps plan s) (one : OneFlightPerOpe
       let a = among_at _ s.bag i at in
       let h = k.relies _ a in
       let w = one.waited _ caller op a refl in
-      subst (λ w. Keeps plan (handled plan (record { reply = reply_at s w (GetAns caller op key num body near); records = records }) s (remove s.bag i) w (GetAns caller op key num body near))) (sym (routed.messages _ a).target)
+      subst (λ w. OperationsStand plan (handled plan (record { reply = reply_at s w (GetAns caller op key num body near); records = records }) s (remove s.bag i) w (GetAns caller op key num body near))) (sym (routed.messages _ a).target)
       (read_answered plan s k (remove s.bag i) caller op key (rest_others plan s k one i _ caller op key at refl h.serves) w.1 w.0 num body near h)
   operation_keeps from to (WriteAns caller op key num kept) at can is =
       let a = among_at _ s.bag i at in
       let h = k.relies _ a in
       let w = one.waited _ caller op a refl in
-      subst (λ w. Keeps plan (handled plan (record { reply = reply_at s w (WriteAns caller op key num kept); records = records }) s (remove s.bag i) w (WriteAns caller op key num kept))) (sym (routed.messages _ a).target)
+      subst (λ w. OperationsStand plan (handled plan (record { reply = reply_at s w (WriteAns caller op key num kept); records = records }) s (remove s.bag i) w (WriteAns caller op key num kept))) (sym (routed.messages _ a).target)
       (write_answered plan s k (remove s.bag i) caller op key (rest_others plan s k one i _ caller op key at refl h.serves) w.1 w.0 num kept h)
   operation_keeps from to _ at can is = absurd cc
 
   pub delivered_keeps : (m : Message) → slice_get s.bag i ≡ Some m → can_deliver s.running m ≡ true → is_operation (subject m.packet) ≡ true
-      → Keeps plan (handled plan (record { reply = reply_at s m.to m.packet; records = records }) s (remove s.bag i) m.to m.packet)
+      → OperationsStand plan (handled plan (record { reply = reply_at s m.to m.packet; records = records }) s (remove s.bag i) m.to m.packet)
   delivered_keeps m at can is = operation_keeps m.from m.to m.packet at can is

@@ -1,7 +1,11 @@
 -- What one step leaves as it was for all that is not its own.
-use Rattle.far_invariants.proofs.Noted.{IsNote, member, note_member, log_cases}
+use Rattle.far_invariants.specs.Logs.{TellsOf}
+use Rattle.far_invariants.specs.Numbers.{ExposedAtMostBy, ExposedAtMost, IsWritten, WouldBeCurrent}
+use Rattle.far_invariants.specs.Covers.{look}
+use Rattle.far_invariants.specs.Operations.{SendsOp, NumbersOp, EmitsOp, AnswersOp, Absent, IsSent, LineStands, LineIs, IsDrawn, IsTagged, ServesOp, Relies, LeftIs, OperationsStand}
+use Rattle.far_invariants.proofs.Noted.{IsNote, member, log_cases}
 use Rattle.flight_laws.proofs.Lists.{each_map}
-use Rattle.std.proofs.Common.{◌≡◌, ◌≢◌, ℕ, ◌<◌, ◌≤◌, ◌⊎◌, inl, inr, Bool, true, List, [], ◌∷◌, map, refl, sym, ap, subst, arith, le_trans}
+use Rattle.std.proofs.Common.{◌≡◌, ◌≢◌, ℕ, ◌<◌, ◌≤◌, ◌⊎◌, inl, inr, Bool, true, List, map, refl, sym, ap, subst, arith, le_trans}
 use Rattle.std.specs.Prelude.{Option}
 use Rattle.far_base.specs.PlanView.{PlanView}
 use Rattle.far_base.specs.declared.log.LogEntry.{LogEntry}
@@ -12,11 +16,9 @@ use Rattle.far_base.specs.declared.packet.Packet.TheVariants.{GetReq, WriteReq, 
 use Rattle.far_model.specs.Clients.{line_of}
 use Rattle.far_model.specs.Coherent.{Rises, Earlier, IsAnswering, IsOwnNumber, ReachesOwnNumber}
 use Rattle.far_invariants.specs.Flights.{subject, OfOperation}
-use Rattle.far_invariants.specs.Invariants.{TellsOf, look, entry, IsWritten, WouldBeCurrent, ExposedAtMostBy, ExposedAtMost}
 use Rattle.far_model.specs.Members.{Among, Each, Pairs}
 use Rattle.far_model.specs.State.{State, client_at, line_at, now, noted}
-use Rattle.far_model.proofs.Members.{among_append_left, among_append_right, among_append, among_map, among_map_from, each_among, pairs_append, pairs_map}
-use Rattle.record_laws.proofs.Keeps.{SendsOp, NumbersOp, EmitsOp, AnswersOp, Absent, IsSent, LineStands, LineIs, IsDrawn, IsTagged, ServesOp, Relies, LeftIs, Keeps}
+use Rattle.far_model.proofs.Members.{among_map_from, each_among, pairs_append, pairs_map}
 
 pub sends_names : (op : ℕ) (e : LogEntry) → SendsOp op e → TellsOf op e
 sends_names op (Sent other line) h = h
@@ -262,7 +264,7 @@ rises_fresh log at (Emitted op num body near) (Emitted other num' body' near') h
 rises_fresh log at (Answered op) (Answered other) h f = λ same. f _ h (sym same)
 rises_fresh log at _ _ h f = tt
 
-pub order_lasts : (plan : PlanView) (s : State) (notes : List LogEntry) → Keeps plan s → Each (IsFresh s.log) notes → Pairs Rises notes → Pairs Earlier (noted s notes)
+pub order_lasts : (plan : PlanView) (s : State) (notes : List LogEntry) → OperationsStand plan s → Each (IsFresh s.log) notes → Pairs Rises notes → Pairs Earlier (noted s notes)
 order_lasts plan s notes k fresh pairs = pairs_append Earlier s.log (map (line_at (now s)) notes) k.order
     (pairs_map Rises Earlier (line_at (now s)) notes pairs (λ x y a b r. (omega arith, r)))
     (λ x y a b. late x y a (among_map_from (line_at (now s)) y notes b))

@@ -8,15 +8,14 @@ pub mod Controls
 pub mod Deliveries
 pub mod Frame
 pub mod Keeps
-pub mod LastingRuns
 pub mod Meanings
 pub mod Moves
 pub mod Openings
 pub mod Requests
 pub mod Scripts
 pub mod Seats
+pub mod SeatsOpen
 pub mod Slots
 pub mod Snapshots
 pub mod Step
 pub mod Stored
-pub mod Uncached

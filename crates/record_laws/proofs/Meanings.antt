@@ -1,4 +1,8 @@
 -- The invariants in the words of the definitions, out of what the induction carries.
+use Rattle.far_invariants.specs.Logs.{SendsByPlan, IsAnsweredInFull, ClosedAreAnswered, AnswersAreCurrent, LogIsSound}
+use Rattle.far_invariants.specs.Numbers.{ExposedAtMostBy, ExposedAtMost, entry, NumbersDiffer, IsServed, IsForwardOf, IsForwarded, NumbersArrive, SeesFloor, CarriesWritten, HasNoLatest, ServerIsCurrent, LatestIsCurrent, IsTaggedCurrent, NumbersAreSound}
+use Rattle.far_invariants.specs.Operations.{IsSent, Relies, IsOpenOrAnswered, OperationsStand}
+use Rattle.far_invariants.specs.Covers.{IsAnsweredNear, look}
 use Rattle.std.proofs.Common.{◌≡◌, ℕ, ◌+◌, ◌<◌, ◌≤◌, ◌⊎◌, inl, inr, Bool, true, false, cond, List, [], ◌∷◌, refl, sym, ap, ◌∙◌, subst, arith, le_trans, eqb-true}
 use Rattle.std.specs.Prelude.{Option, Some, None}
 use Rattle.std.specs.List.{count_by}
@@ -14,18 +18,16 @@ use Rattle.far_base.specs.declared.plan.OpLine.{OpLine}
 use Rattle.far_model.specs.Clients.{line_of}
 use Rattle.far_model.specs.Coherent.{Earlier, IsAnswering, IsOwnNumber, ReachesOwnNumber}
 use Rattle.far_invariants.specs.Flights.{Subject, OfOperation, subject, is_of_client, flights_of, open_count, OneFlightPerOperation}
-use Rattle.far_invariants.specs.Invariants.{look, entry, NumbersDiffer, IsServed, IsAbsorbed, IsForwardOf, IsForwarded, NumbersArrive, SeesFloor, CarriesWritten, HasNoLatest, ServerIsCurrent, LatestIsCurrent, IsTaggedCurrent, SendsByPlan, IsAnsweredInFull, ClosedAreAnswered, AnswersAreCurrent, LogIsSound, NumbersAreSound, ExposedAtMostBy, ExposedAtMost}
 use Rattle.far_model.specs.Log.{exposed, is_read}
 use Rattle.far_model.specs.Members.{Among, Pairs}
 use Rattle.far_model.specs.State.{State, client_at, line_at}
 use Rattle.far_model.specs.View.{SlotView}
 use Rattle.far_model.proofs.Members.{pairs_among, each_among, each_from_among}
 use Rattle.record_laws.proofs.Coherence.{coherent, exposed_most}
-use Rattle.record_laws.proofs.Keeps.{IsSent, IsOpenOrAnswered, Relies, Keeps}
 use Rattle.record_laws.proofs.Requests.{reach_none, reach_latest, reach_outdated}
 use Rattle.record_laws.proofs.Scripts.{same_subject, named_sent}
 
-module _ (plan : PlanView) (s : State) (k : Keeps plan s) where
+module _ (plan : PlanView) (s : State) (k : OperationsStand plan s) where
   -- ---- lines are told once
 
   sent_once : (x y op : ℕ) (a b : OpLine) → Among (line_at x (Sent op a)) s.log → Among (line_at y (Sent op b)) s.log → x ≡ y
@@ -136,7 +138,7 @@ module _ (plan : PlanView) (s : State) (k : Keeps plan s) where
       record { message = m.0; among = m.1; caller = o.0; op = o.1; is = o.2; same = o.3 }
 
   abbrev Arrives : ℕ → ℕ → Type 0
-  Arrives op num = IsAbsorbed s.log op num ⊎ ((num ≤ (look plan s (line_of plan.ops op).key).num) ⊎ IsForwarded s op num)
+  Arrives op num = IsAnsweredNear s.log op num ⊎ ((num ≤ (look plan s (line_of plan.ops op).key).num) ⊎ IsForwarded s op num)
 
   emitted_arrives : (at op num moment : ℕ) → Among (line_at at (Numbered op num)) s.log → IsAnswering s.log moment op → Arrives op num
   emitted_arrives at op num moment a h =

@@ -1,28 +1,19 @@
 -- Packets of operations move no owner of a slot.
-use Rattle.std.proofs.Common.{◌≡◌, ℕ, inl, inr, true, false, List, [], ◌∷◌, ◌++◌, refl, sym, ap, ◌∙◌, subst, arith}
-use Rattle.std.specs.Prelude.{Option, Some, None, slice_get, max}
-use Rattle.std.specs.List.{remove}
-use Rattle.far_base.specs.PlanView.{PlanView}
+use Rattle.std.proofs.Common.{◌≡◌, ℕ, inl, inr, true, false, List, ◌++◌, refl, ap, ◌∙◌}
+use Rattle.std.specs.Prelude.{Option, Some, None, max}
 use Rattle.far_base.specs.declared.packet.Message.{Message}
 use Rattle.far_base.specs.declared.packet.Out.{Out}
-use Rattle.far_base.specs.declared.packet.Packet.{Packet}
-use Rattle.far_base.specs.declared.packet.Packet.TheVariants.{GetReq, WriteReq, GetFwd, WriteFwd, GetRep, WriteRep, GetAns, WriteAns, Hot, SnapPart, SnapSame}
-use Rattle.far_base.specs.declared.party.Party.{Party}
+use Rattle.far_base.specs.declared.packet.Packet.TheVariants.{GetReq, WriteReq, GetFwd, GetAns, Hot, SnapPart, SnapSame}
 use Rattle.far_base.specs.declared.party.Party.TheVariants.{Client, Switch, Server, Controller}
 use Rattle.far_base.specs.declared.plan.OpLine.{OpLine}
-use Rattle.far_base.specs.declared.record.Record.{Record}
-use Rattle.far_model.specs.Clients.{line_of, request}
-use Rattle.far_model.specs.Events.{handled, reply_at, sends, next_sent, switch_turn}
-use Rattle.far_invariants.specs.Flights.{subject, is_operation, IsRouted}
+use Rattle.far_model.specs.Clients.{request}
 use Rattle.far_model.specs.Log.{is_read}
 use Rattle.far_model.specs.Members.{Among}
 use Rattle.far_model.specs.Parties.{messages_from}
-use Rattle.far_model.specs.Pass.{Passed, sent_to, passed_out, outs_of, read_passes, write_passes, reply_passes, numbered, touched, told_hot, grows_hot, hot_cell, changes, changed_view, part_left, part_of, with_slot, with_taken, absorbing, raised, takes_reply, is_as_before}
-use Rattle.far_model.specs.State.{State, client_at}
-use Rattle.far_model.specs.View.{SlotView, SwitchView, slot_at, entry_place, is_taken, server_of, held_record}
-use Rattle.far_model.proofs.Members.{among_at}
+use Rattle.far_model.specs.Pass.{Passed, sent_to, outs_of, read_passes, write_passes, reply_passes, numbered, touched, told_hot, grows_hot, hot_cell, changes, changed_view, part_left, part_of, with_slot, with_taken, absorbing, raised, takes_reply, is_as_before}
+use Rattle.far_model.specs.View.{SlotView, SwitchView, slot_at, is_taken, server_of, held_record}
 use Rattle.flight_laws.proofs.Lists.{by_test}
-use Rattle.record_laws.proofs.Seats.{is_admission_packet, SameOwner, SameSlots, Seats, bag_taken, bag_grown, same_seats, seats_last, unchanged_slots, set_slots}
+use Rattle.record_laws.proofs.Seats.{is_admission_packet, SameOwner, SameSlots, unchanged_slots, set_slots}
 
 abbrev pub IsNoAdmission : Option Out → Type 0
 IsNoAdmission None = Unit {0}
@@ -82,56 +73,5 @@ reply_sits v tag num body out (Some i) none = by_test (PassSits v) (takes_reply 
     (record { slots = changed_sits v i (absorbing num body (slot_at v i)) (record { valid = refl; key = refl; tag = refl }); first = none; second = part_none v i })
     (record { slots = set_slots v (with_slot v i (raised num (slot_at v i))) i (raised num (slot_at v i)) refl refl refl (raised_owner num (slot_at v i)); first = none; second = tt })
 
-one_none : (m : Message) → is_admission_packet m.packet ≡ false → (n : Message) → Among n (m ∷ []) → is_admission_packet n.packet ≡ false
-one_none m off n (inl e) = ap (λ (w : Message). is_admission_packet w.packet) e ∙ off
-one_none m off n (inr a) = absurd a
-
-module _ (plan : PlanView) (s : State) (h : Seats plan s) (routed : IsRouted plan s) (i : ℕ) (records : List Record) where
-  at_switch : (m : Message) (p : Packet) (passed : Passed) → slice_get s.bag i ≡ Some m → is_admission_packet m.packet ≡ false → PassSits s.switch passed → Seats plan (switch_turn s (remove s.bag i) p passed)
-  at_switch m p passed at off sits =
-      let t : State = switch_turn s (remove s.bag i) p passed in
-      seats_last plan s t h (same_seats s t refl sits.slots refl refl (omega arith)
-      (bag_taken s t i m (messages_from Switch (passed_out passed)) at off refl (outs_none passed.first passed.second sits.first sits.second)))
-
-  operation_sits : (from to : Party) (p : Packet) → slice_get s.bag i ≡ Some (record { from = from; to = to; packet = p }) → is_operation (subject p) ≡ true
-      → Seats plan (handled plan (record { reply = reply_at s to p; records = records }) s (remove s.bag i) to p)
-  operation_sits from to (GetReq caller op key) at is =
-      subst (λ w. Seats plan (handled plan (record { reply = reply_at s w (GetReq caller op key); records = records }) s (remove s.bag i) w (GetReq caller op key))) (sym (routed.messages _ (among_at _ s.bag i at)).target)
-      (at_switch _ (GetReq caller op key) _ at refl (read_sits s.switch caller op key (entry_place key s.switch)))
-  operation_sits from to (WriteReq caller op key body) at is =
-      subst (λ w. Seats plan (handled plan (record { reply = reply_at s w (WriteReq caller op key body); records = records }) s (remove s.bag i) w (WriteReq caller op key body))) (sym (routed.messages _ (among_at _ s.bag i at)).target)
-      (at_switch _ (WriteReq caller op key body) _ at refl (write_sits s.switch caller op key body (entry_place key s.switch)))
-  operation_sits from to (GetRep caller op key tag num body) at is =
-      subst (λ w. Seats plan (handled plan (record { reply = reply_at s w (GetRep caller op key tag num body); records = records }) s (remove s.bag i) w (GetRep caller op key tag num body))) (sym (routed.messages _ (among_at _ s.bag i at)).target)
-      (at_switch _ (GetRep caller op key tag num body) _ at refl (reply_sits s.switch (Some tag) num body (sent_to (Client caller) (GetAns caller op key num body false)) (entry_place key s.switch) refl))
-  operation_sits from to (WriteRep caller op key num body) at is =
-      subst (λ w. Seats plan (handled plan (record { reply = reply_at s w (WriteRep caller op key num body); records = records }) s (remove s.bag i) w (WriteRep caller op key num body))) (sym (routed.messages _ (among_at _ s.bag i at)).target)
-      (at_switch _ (WriteRep caller op key num body) _ at refl (reply_sits s.switch None num body (sent_to (Client caller) (WriteAns caller op key num false)) (entry_place key s.switch) refl))
-  operation_sits from to (GetFwd caller op key tag) at is =
-      subst (λ w. Seats plan (handled plan (record { reply = reply_at s w (GetFwd caller op key tag); records = records }) s (remove s.bag i) w (GetFwd caller op key tag))) (sym (routed.messages _ (among_at _ s.bag i at)).target)
-      (seats_last plan s _ h (same_seats s _ refl (unchanged_slots s.switch s.switch refl refl refl) refl refl (omega arith) (bag_taken s _ i _ _ at refl refl (one_none _ refl))))
-  operation_sits from to (WriteFwd caller op key num body) at is =
-      subst (λ w. Seats plan (handled plan (record { reply = reply_at s w (WriteFwd caller op key num body); records = records }) s (remove s.bag i) w (WriteFwd caller op key num body))) (sym (routed.messages _ (among_at _ s.bag i at)).target)
-      (seats_last plan s _ h (same_seats s _ refl (unchanged_slots s.switch s.switch refl refl refl) refl refl (omega arith) (bag_taken s _ i _ _ at refl refl (one_none _ refl))))
-  operation_sits from to (GetAns caller op key num body near) at is =
-      subst (λ w. Seats plan (handled plan (record { reply = reply_at s w (GetAns caller op key num body near); records = records }) s (remove s.bag i) w (GetAns caller op key num body near))) (sym (routed.messages _ (among_at _ s.bag i at)).target)
-      (seats_last plan s _ h (same_seats s _ refl (unchanged_slots s.switch s.switch refl refl refl) refl refl (omega arith) (bag_taken s _ i _ [] at refl refl (λ n a. absurd a))))
-  operation_sits from to (WriteAns caller op key num kept) at is =
-      subst (λ w. Seats plan (handled plan (record { reply = reply_at s w (WriteAns caller op key num kept); records = records }) s (remove s.bag i) w (WriteAns caller op key num kept))) (sym (routed.messages _ (among_at _ s.bag i at)).target)
-      (seats_last plan s _ h (same_seats s _ refl (unchanged_slots s.switch s.switch refl refl refl) refl refl (omega arith) (bag_taken s _ i _ [] at refl refl (λ n a. absurd a))))
-  operation_sits from to _ at is = absurd cc
-
-  pub moved_sits : (m : Message) → slice_get s.bag i ≡ Some m → is_operation (subject m.packet) ≡ true → Seats plan (handled plan (record { reply = reply_at s m.to m.packet; records = records }) s (remove s.bag i) m.to m.packet)
-  moved_sits m at is = operation_sits m.from m.to m.packet at is
-
 pub request_none : (c op : ℕ) (line : OpLine) → is_admission_packet (request c op line) ≡ false
 request_none c op line = by_test (λ q. is_admission_packet q ≡ false) (is_read line.op) (GetReq c op line.key) (WriteReq c op line.key line.body) refl refl
-
-pub send_sits : (plan : PlanView) (s : State) → Seats plan s → (c : ℕ) → Seats plan (sends plan s c)
-send_sits plan s h c = seats_last plan s (sends plan s c) h (same_seats s (sends plan s c) refl (unchanged_slots s.switch s.switch refl refl refl) refl refl (omega arith)
-    (bag_grown s (sends plan s c) (messages_from (Client c) (next_sent plan.ops c (client_at s c) (client_at s c).left).out) refl (go (client_at s c).left)))
-  where
-    go : (left : List ℕ) → (n : Message) → Among n (messages_from (Client c) (next_sent plan.ops c (client_at s c) left).out) → is_admission_packet n.packet ≡ false
-    go [] n a = absurd a
-    go (op ∷ left) n (inl e) = ap (λ (w : Message). is_admission_packet w.packet) e ∙ request_none c op (line_of plan.ops op)
-    go (op ∷ left) n (inr a) = absurd a

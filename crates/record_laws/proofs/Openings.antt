@@ -1,20 +1,21 @@
 -- The opening state keeps everything.
-use Rattle.flight_laws.proofs.ScriptLaws.{IsInScript, in_script, opens_client}
+use Rattle.far_invariants.specs.Numbers.{slot_if, entry, IsWritten}
+use Rattle.far_invariants.specs.Covers.{look}
+use Rattle.far_invariants.specs.Operations.{LeftIs, OperationsStand}
+use Rattle.flight_laws.proofs.ScriptLaws.{in_script, opens_client}
 use Rattle.far_base.specs.declared.record.Versioned.{Versioned}
-use Rattle.std.proofs.Common.{◌≡◌, ◌≢◌, ℕ, zero, suc, ◌+◌, ◌-◌, ◌⊎◌, inl, inr, Bool, true, false, List, [], ◌∷◌, length, replicate, get_or, refl, sym, ap, ◌∙◌, subst, arith, eqb-true}
+use Rattle.std.proofs.Common.{◌≡◌, ◌≢◌, ℕ, zero, suc, ◌+◌, ◌-◌, ◌⊎◌, inl, inr, Bool, true, false, List, [], ◌∷◌, length, replicate, get_or, refl, sym, ap, ◌∙◌, subst, arith}
 use Rattle.std.specs.Prelude.{Some, None, if◌then◌else◌, nat_eq}
 use Rattle.far_base.specs.Limits.{IsPlan}
 use Rattle.far_base.specs.PlanView.{PlanView}
 use Rattle.far_base.specs.declared.plan.OpLine.{OpLine}
 use Rattle.far_model.specs.Clients.{ClientState, no_line, script, script_from, opening_client}
 use Rattle.far_model.specs.History.{nothing}
-use Rattle.far_invariants.specs.Invariants.{look, entry, slot_if, IsWritten}
 use Rattle.far_model.specs.KeyedRecords.{found}
 use Rattle.far_model.specs.Members.{Among, Pairs}
-use Rattle.far_model.specs.State.{opening, clients_from, client_at, nobody}
+use Rattle.far_model.specs.State.{opening, client_at, nobody}
 use Rattle.far_model.specs.View.{server_of, bound_place, entry_if, next_place}
 use Rattle.far_model.proofs.Members.{each_from_among}
-use Rattle.record_laws.proofs.Keeps.{LeftIs, Keeps}
 
 none_at : {A : Type 0} (n i : ℕ) (a : A) → get_or (replicate n a) i a ≡ a
 none_at zero i a = refl
@@ -65,7 +66,7 @@ module _ (plan : PlanView) where
       go (inl e) = of_script (script plan.ops (0 + c)) (ap (script plan.ops) (omega arith)) (ap (λ (w : ClientState). w.left) e)
       go (inr e) = of_nobody (ap (λ (w : ClientState). w.left) e)
 
-  pub opening_keeps : IsPlan plan → length (opening plan).servers ≡ plan.config.servers → Keeps plan (opening plan)
+  pub opening_keeps : IsPlan plan → length (opening plan).servers ≡ plan.config.servers → OperationsStand plan (opening plan)
   opening_keeps valid servers = record {
     some_server = let n = valid.config.servers.0 in omega (arith, n);
     servers = servers;

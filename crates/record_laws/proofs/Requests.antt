@@ -1,4 +1,7 @@
 -- Requests to the switch: reads and writes.
+use Rattle.far_invariants.specs.Numbers.{ExposedAtMost, slot_if, entry, reach_by, reach, IsWritten, WouldBeCurrent}
+use Rattle.far_invariants.specs.Covers.{look}
+use Rattle.far_invariants.specs.Operations.{EmitsOp, AnswersOp, IsSent, IsDrawn, ServesOp, ReadIsAsked, WriteIsAsked, IsBeingAnswered, OperationsStand}
 use Rattle.far_invariants.proofs.Noted.{member, note_member}
 use Rattle.far_model.specs.Coherent.{IsOwnNumber}
 use Rattle.std.proofs.Common.{◌≡◌, ◌≢◌, ℕ, ◌+◌, ◌<◌, ◌≤◌, max, inl, inr, Bool, true, false, List, [], ◌∷◌, refl, sym, ap, ◌∙◌, subst, arith, le_trans}
@@ -13,13 +16,12 @@ use Rattle.far_base.specs.declared.packet.Packet.TheVariants.{GetReq, WriteReq, 
 use Rattle.far_base.specs.declared.party.Party.TheVariants.{Client, Server, Controller}
 use Rattle.far_model.specs.Clients.{line_of}
 use Rattle.far_model.specs.Events.{switch_turn}
-use Rattle.far_invariants.specs.Invariants.{look, entry, slot_if, reach, reach_by, IsWritten, WouldBeCurrent, ExposedAtMost}
 use Rattle.far_model.specs.Members.{Among, Each}
 use Rattle.far_model.specs.Pass.{Passed, sent_to, read_passes, write_passes, numbered, absorbing, touched, told_hot, grows_hot, hot_cell, part_of, with_slot, with_taken}
 use Rattle.far_model.specs.State.{State, client_at, line_at, now, noted, stepped}
 use Rattle.far_model.specs.View.{SlotView, SwitchView, slot_at, entry_place, is_slot_of, is_taken, server_of, held_record}
 use Rattle.record_laws.proofs.Frame.{NotOn, off_shows_each, absent_lasts, shown_lasts, shown_by_lasts, shown_within, shown_shown_by, Grows, serves_lasts}
-use Rattle.record_laws.proofs.Keeps.{EmitsOp, AnswersOp, IsSent, IsDrawn, ServesOp, ReadIsAsked, WriteIsAsked, IsBeingAnswered, Keeps, part_relies, part_admits}
+use Rattle.record_laws.proofs.Keeps.{part_relies, part_admits}
 use Rattle.record_laws.proofs.Slots.{IsEntry, SetsSlot, entry_is, entry_set, entry_kept, taken_sets, with_slot_sets}
 use Rattle.record_laws.proofs.Step.{AreOthers, GoesWell, AdmitsNone, PassesFor, passed_state, pass_keeps, shown_counted}
 
@@ -52,7 +54,7 @@ abbrev pub sent_still : (plan : PlanView) (s : State) (notes : List LogEntry) (o
 sent_still plan s notes op h = record { sent_at = h.sent_at; sent = member s (stepped s [] notes) notes refl _ h.sent; before = le_trans h.before (omega arith) }
 
 -- a pass that changes no slot and answers nothing
-pub quiet_passes : (plan : PlanView) (s : State) (w : SwitchView) (notes : List LogEntry) (key : List ℕ) → Keeps plan s → w.config ≡ s.switch.config → s.switch.counter ≤ w.counter
+pub quiet_passes : (plan : PlanView) (s : State) (w : SwitchView) (notes : List LogEntry) (key : List ℕ) → OperationsStand plan s → w.config ≡ s.switch.config → s.switch.counter ≤ w.counter
     → ((other : List ℕ) → entry other w ≡ entry other s.switch) → ((other : List ℕ) → Each (NotOn plan other) notes) → PassesFor plan s w notes key
 quiet_passes plan s w notes key k config counter same off = record {
   config = config;
@@ -70,7 +72,7 @@ quiet_passes plan s w notes key k config counter same off = record {
 }
 
 -- a pass that answers from a latest slot and changes none
-pub near_passes : (plan : PlanView) (s : State) (op : ℕ) (body : Option (List ℕ)) (near : Bool) (key : List ℕ) (slot : SlotView) → Keeps plan s → (line_of plan.ops op).key ≡ key
+pub near_passes : (plan : PlanView) (s : State) (op : ℕ) (body : Option (List ℕ)) (near : Bool) (key : List ℕ) (slot : SlotView) → OperationsStand plan s → (line_of plan.ops op).key ≡ key
     → entry key s.switch ≡ Some slot → slot.latest ≡ true → PassesFor plan s s.switch (Emitted op slot.num body near ∷ []) key
 near_passes plan s op body near key slot k on is latest = record {
   config = refl;
@@ -122,7 +124,7 @@ hot_goes plan t key v = go (grows_hot v.config.hot (hot_cell key v))
     go true = ((tt, λ tag. tt), λ tag. tt)
     go false = (tt, tt)
 
-module _ (plan : PlanView) (s : State) (k : Keeps plan s) (runs : s.running ≡ true) (rest : List Message) (caller op : ℕ) (key : List ℕ) (others : AreOthers (Its op) s rest) where
+module _ (plan : PlanView) (s : State) (k : OperationsStand plan s) (runs : s.running ≡ true) (rest : List Message) (caller op : ℕ) (key : List ℕ) (others : AreOthers (Its op) s rest) where
   -- nothing of the operation is still to be sent
   pub not_left : ServesOp plan s caller op key → (c o : ℕ) → Among o (client_at s c).left → Its op o → ⊥
   not_left h c o a same = (k.left c).unsent o a _ h.sent.sent same
@@ -154,11 +156,11 @@ module _ (plan : PlanView) (s : State) (k : Keeps plan s) (runs : s.running ≡ 
         λ other. tt,
       )
 
-  pub read_keeps : ReadIsAsked plan s caller op key → Keeps plan (switch_turn s rest (GetReq caller op key) (read_passes s.switch caller op key (entry_place key s.switch)))
+  pub read_keeps : ReadIsAsked plan s caller op key → OperationsStand plan (switch_turn s rest (GetReq caller op key) (read_passes s.switch caller op key (entry_place key s.switch)))
   read_keeps h = place (entry_place key s.switch) refl
     where
       near : (slot : SlotView) → entry key s.switch ≡ Some slot → slot.latest ≡ true
-          → Keeps plan (switch_turn s rest (GetReq caller op key) (record { view = s.switch; first = sent_to (Client caller) (GetAns caller op key slot.num slot.body true); second = None }))
+          → OperationsStand plan (switch_turn s rest (GetReq caller op key) (record { view = s.switch; first = sent_to (Client caller) (GetAns caller op key slot.num slot.body true); second = None }))
       near slot is latest =
           let p : Passed = record { view = s.switch; first = sent_to (Client caller) (GetAns caller op key slot.num slot.body true); second = None } in
           let t : State = passed_state s rest (GetReq caller op key) p (Emitted op slot.num slot.body true ∷ []) in
@@ -190,14 +192,14 @@ module _ (plan : PlanView) (s : State) (k : Keeps plan s) (runs : s.running ≡ 
           (λ o n. n, tt) (tt, tt) (not_left h.serves) (λ o n. n, tt)
 
       outdated : (slot : SlotView) → entry key s.switch ≡ Some slot → slot.latest ≡ false
-          → Keeps plan (switch_turn s rest (GetReq caller op key) (record { view = s.switch; first = sent_to (Server (server_of s.switch.config key)) (GetFwd caller op key slot.tag); second = None }))
+          → OperationsStand plan (switch_turn s rest (GetReq caller op key) (record { view = s.switch; first = sent_to (Server (server_of s.switch.config key)) (GetFwd caller op key slot.tag); second = None }))
       outdated slot is old =
           let p : Passed = record { view = s.switch; first = sent_to (Server (server_of s.switch.config key)) (GetFwd caller op key slot.tag); second = None } in
           pass_keeps plan (Its op) s rest (GetReq caller op key) p [] key k (quiet_passes plan s s.switch [] key k refl (omega arith) (λ other. refl) (λ other. tt)) others (λ tag. tt) tt
           (λ g. (forwards s.switch None slot.tag (λ other. refl) (reach_outdated (look plan s key).num (entry key s.switch) slot is old) (k.slots key slot is).drawn g h, tt, tt))
           tt tt (not_left h.serves) tt
 
-      by_latest : (i : ℕ) → entry key s.switch ≡ Some (slot_at s.switch i) → (b : Bool) → (slot_at s.switch i).latest ≡ b → Keeps plan (switch_turn s rest (GetReq caller op key) (record {
+      by_latest : (i : ℕ) → entry key s.switch ≡ Some (slot_at s.switch i) → (b : Bool) → (slot_at s.switch i).latest ≡ b → OperationsStand plan (switch_turn s rest (GetReq caller op key) (record {
         view = s.switch;
         first = if b then sent_to (Client caller) (GetAns caller op key (slot_at s.switch i).num (slot_at s.switch i).body true) else sent_to (Server (server_of s.switch.config key)) (GetFwd caller op key (slot_at s.switch i).tag);
         second = None;
@@ -205,7 +207,7 @@ module _ (plan : PlanView) (s : State) (k : Keeps plan s) (runs : s.running ≡ 
       by_latest i is true l = near (slot_at s.switch i) is l
       by_latest i is false l = outdated (slot_at s.switch i) is l
 
-      place : (o : Option ℕ) → entry_place key s.switch ≡ o → Keeps plan (switch_turn s rest (GetReq caller op key) (read_passes s.switch caller op key o))
+      place : (o : Option ℕ) → entry_place key s.switch ≡ o → OperationsStand plan (switch_turn s rest (GetReq caller op key) (read_passes s.switch caller op key o))
       place None e =
           let p : Passed = read_passes s.switch caller op key None in
           let hot = hot_goes plan (passed_state s rest (GetReq caller op key) p []) key s.switch in
@@ -232,7 +234,7 @@ module _ (plan : PlanView) (s : State) (k : Keeps plan s) (runs : s.running ≡ 
   -- an entry takes the write
   write_absorbs : (body : Option (List ℕ)) (w : SwitchView) (second : Option Out) (i : ℕ) → WriteIsAsked plan s caller op key body → entry_place key s.switch ≡ Some i
       → SetsSlot (numbered s.switch) w i (absorbing w.counter body (slot_at s.switch i)) → s.switch.counter < w.counter → ((t : State) → GoesWell plan t second) → AdmitsNone second
-      → Keeps plan (write_after body w second)
+      → OperationsStand plan (write_after body w second)
   write_absorbs body w second i h e sets above goes admits =
       let p : Passed = record { view = w; first = sent_to (Client caller) (WriteAns caller op key w.counter true); second = second } in
       let t : State = write_after body w second in
@@ -277,10 +279,10 @@ module _ (plan : PlanView) (s : State) (k : Keeps plan s) (runs : s.running ≡ 
       ))
       (λ o n. n, (λ o n. n, tt)) ((tt, tt), (tt, tt)) (not_left h.serves) (λ o n. n, (λ o n. n, tt))
 
-  pub write_keeps : (body : Option (List ℕ)) → WriteIsAsked plan s caller op key body → Keeps plan (switch_turn s rest (WriteReq caller op key body) (write_passes (numbered s.switch) caller op key body (entry_place key s.switch)))
+  pub write_keeps : (body : Option (List ℕ)) → WriteIsAsked plan s caller op key body → OperationsStand plan (switch_turn s rest (WriteReq caller op key body) (write_passes (numbered s.switch) caller op key body (entry_place key s.switch)))
   write_keeps body h = place (entry_place key s.switch) refl
     where
-      absorbed : (i : ℕ) → entry_place key s.switch ≡ Some i → (b : Bool) → Keeps plan (switch_turn s rest (WriteReq caller op key body) (record {
+      absorbed : (i : ℕ) → entry_place key s.switch ≡ Some i → (b : Bool) → OperationsStand plan (switch_turn s rest (WriteReq caller op key body) (record {
         view = let slot = absorbing (s.switch.counter + 1) body (slot_at s.switch i) in if b then with_slot (numbered s.switch) i slot else with_taken (with_slot (numbered s.switch) i slot) i (held_record (slot_at s.switch i));
         first = sent_to (Client caller) (WriteAns caller op key (s.switch.counter + 1) true);
         second = if b then None else part_of (numbered s.switch) i;
@@ -294,7 +296,7 @@ module _ (plan : PlanView) (s : State) (k : Keeps plan s) (runs : s.running ≡ 
           write_absorbs body (with_taken (with_slot (numbered s.switch) i (absorbing (s.switch.counter + 1) body (slot_at s.switch i))) i (held_record (slot_at s.switch i))) (part_of (numbered s.switch) i) i h e
           (taken_sets (numbered s.switch) i (absorbing (s.switch.counter + 1) body (slot_at s.switch i)) is.within) (omega arith) (λ t. (part_relies plan t (numbered s.switch) i, λ tag. part_admits (numbered s.switch) i tag)) (λ tag. part_admits (numbered s.switch) i tag)
 
-      place : (o : Option ℕ) → entry_place key s.switch ≡ o → Keeps plan (switch_turn s rest (WriteReq caller op key body) (write_passes (numbered s.switch) caller op key body o))
+      place : (o : Option ℕ) → entry_place key s.switch ≡ o → OperationsStand plan (switch_turn s rest (WriteReq caller op key body) (write_passes (numbered s.switch) caller op key body o))
       place None e =
           let p : Passed = write_passes (numbered s.switch) caller op key body None in
           let t : State = passed_state s rest (WriteReq caller op key body) p (Numbered op (s.switch.counter + 1) ∷ []) in

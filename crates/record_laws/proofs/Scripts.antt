@@ -1,4 +1,7 @@
 -- What clients do: they send their operations and get the answers.
+use Rattle.far_invariants.specs.Logs.{TellsOf}
+use Rattle.far_invariants.specs.Numbers.{entry, reach}
+use Rattle.far_invariants.specs.Operations.{SendsOp, NumbersOp, EmitsOp, AnswersOp, Absent, IsSent, AdmitsOther, IsDrawn, ServesOp, IsBeingAnswered, Relies, LeftIs, WasAnswered, IsOpenOrAnswered, OperationsStand}
 use Rattle.far_invariants.proofs.Noted.{IsNote, member, note_member, log_cases}
 use Rattle.std.proofs.Common.{◌≡◌, ◌≢◌, ℕ, zero, suc, ◌<◌, max, ◌⊎◌, inl, inr, Bool, true, false, List, [], ◌∷◌, ◌++◌, length, refl, sym, ap, ◌∙◌, subst, arith, le_trans}
 use Rattle.std.specs.Prelude.{Option, Some, None, if◌then◌else◌, get_or, set, not, ◌&&◌, is_some, IsTrue, nat_lt}
@@ -19,14 +22,12 @@ use Rattle.far_model.specs.Clients.{ClientState, line_of, closed, preserves, ans
 use Rattle.far_model.specs.Coherent.{Rises}
 use Rattle.far_model.specs.Events.{client_turn, next_sent, can_send, has_next, sends}
 use Rattle.far_invariants.specs.Flights.{subject, OfOperation}
-use Rattle.far_invariants.specs.Invariants.{TellsOf, entry, reach}
 use Rattle.far_model.specs.KeyedRecords.{put_record}
 use Rattle.far_model.specs.Log.{is_read}
 use Rattle.far_model.specs.Members.{Among, Each, Pairs}
 use Rattle.far_model.specs.State.{State, client_at, line_at, now, stepped, nobody}
 use Rattle.far_model.proofs.Members.{among_append, each_among}
 use Rattle.record_laws.proofs.Frame.{counted_on, sends_names, numbers_names, emits_names, answers_names, AboutMine, NotOn, off_shows_each, absent_lasts, shown_lasts, shown_within, Grows, written_lasts, answering_lasts, left_lasts, not_mine}
-use Rattle.record_laws.proofs.Keeps.{SendsOp, NumbersOp, EmitsOp, AnswersOp, Absent, IsSent, AdmitsOther, IsDrawn, ServesOp, IsBeingAnswered, Relies, LeftIs, WasAnswered, IsOpenOrAnswered, Keeps}
 use Rattle.record_laws.proofs.Requests.{Its}
 use Rattle.record_laws.proofs.Slots.{both}
 use Rattle.record_laws.proofs.Step.{IsOther, AreOthers, NoteIs, sent_before, next}
@@ -61,11 +62,11 @@ module _ (plan : PlanView) (op : ℕ) (s : State) (rest new : List Message) (not
   abbrev turned : State
   turned = record (stepped s (rest ++ new) notes) { clients = clients }
 
-  pub turned_keeps : Keeps plan s → AreOthers (Its op) s rest → ((m : Message) → Among m new → (tag : ℕ) → AdmitsOther tag m.packet)
+  pub turned_keeps : OperationsStand plan s → AreOthers (Its op) s rest → ((m : Message) → Among m new → (tag : ℕ) → AdmitsOther tag m.packet)
       → ((key : List ℕ) → Each (NotOn plan key) notes) → Each (AboutMine (Its op)) notes → Pairs Rises notes
       → (Grows plan (Its op) notes s turned → ((m : Message) → Among m new → Relies plan turned m.packet) × Each (NoteIs plan (Its op) s turned) notes × ((c : ℕ) → LeftIs plan turned c))
       → ((at o : ℕ) → Among (line_at at (Sent o (line_of plan.ops o))) turned.log → IsOpenOrAnswered plan turned o)
-      → Keeps plan turned
+      → OperationsStand plan turned
   turned_keeps k others none off about pairs holds waits_on =
       let w = holds g in
       next plan (Its op) notes s turned k g w.1 pairs (λ m h. bag w.0 m (among_append m rest new h)) (record {
@@ -100,10 +101,10 @@ module _ (plan : PlanView) (op : ℕ) (s : State) (rest new : List Message) (not
 
 -- ---- an answer comes
 
-module _ (plan : PlanView) (s : State) (k : Keeps plan s) (rest : List Message) (caller op : ℕ) (key : List ℕ) (others : AreOthers (Its op) s rest)
+module _ (plan : PlanView) (s : State) (k : OperationsStand plan s) (rest : List Message) (caller op : ℕ) (key : List ℕ) (others : AreOthers (Its op) s rest)
     (waits : (client_at s caller).waits ≡ Some op) (there : caller < length s.clients) where
   pub answer_keeps : (after : ClientState) → after.waits ≡ None → after.left ≡ (client_at s caller).left → IsBeingAnswered plan s caller op key
-      → Keeps plan (turned plan op s rest [] (Answered op ∷ []) (set s.clients caller after))
+      → OperationsStand plan (turned plan op s rest [] (Answered op ∷ []) (set s.clients caller after))
   answer_keeps after closes same h =
       turned_keeps plan op s rest [] (Answered op ∷ []) (set s.clients caller after) k others (λ m a tag. absurd a) (λ key. (tt, tt)) (λ o n. n, tt) (tt, tt)
       (λ g. (
@@ -142,17 +143,17 @@ module _ (plan : PlanView) (s : State) (k : Keeps plan s) (rest : List Message) 
       go true = refl
       go false = refl
 
-  pub read_answered : (num : ℕ) (body : Option (List ℕ)) (near : Bool) → IsBeingAnswered plan s caller op key → Keeps plan (client_turn s caller rest (client_takes plan.ops caller (client_at s caller) (GetAns caller op key num body near)))
+  pub read_answered : (num : ℕ) (body : Option (List ℕ)) (near : Bool) → IsBeingAnswered plan s caller op key → OperationsStand plan (client_turn s caller rest (client_takes plan.ops caller (client_at s caller) (GetAns caller op key num body near)))
   read_answered num body near h = answer_keeps (closed (client_at s caller)) refl refl h
 
-  pub write_answered : (num : ℕ) (kept : Bool) → IsBeingAnswered plan s caller op key → Keeps plan (client_turn s caller rest (client_takes plan.ops caller (client_at s caller) (WriteAns caller op key num kept)))
+  pub write_answered : (num : ℕ) (kept : Bool) → IsBeingAnswered plan s caller op key → OperationsStand plan (client_turn s caller rest (client_takes plan.ops caller (client_at s caller) (WriteAns caller op key num kept)))
   write_answered num kept h = answer_keeps (preserves (closed (client_at s caller)) kept (answered_record plan.ops op num))
       (preserved_waits (closed (client_at s caller)) kept (answered_record plan.ops op num)) (preserved_left (closed (client_at s caller)) kept (answered_record plan.ops op num)) h
 
 -- ---- an operation is sent
 
 -- what the log tells of an operation it tells after its sending
-pub named_sent : (plan : PlanView) (s : State) → Keeps plan s → (op : ℕ) (l : LogLine) → Among l s.log → TellsOf op l.entry → IsSent plan s.log l.moment op
+pub named_sent : (plan : PlanView) (s : State) → OperationsStand plan s → (op : ℕ) (l : LogLine) → Among l s.log → TellsOf op l.entry → IsSent plan s.log l.moment op
 named_sent plan s k op l a n = go l.entry refl n
   where
     line : (entry : LogEntry) → l.entry ≡ entry → Among (line_at l.moment entry) s.log
@@ -195,11 +196,11 @@ request_admits c op line tag = go (is_read line.op)
     go true = tt
     go false = tt
 
-pub send_keeps : (plan : PlanView) (s : State) → Keeps plan s → (c : ℕ) → can_send (client_at s c) ≡ true → Keeps plan (sends plan s c)
+pub send_keeps : (plan : PlanView) (s : State) → OperationsStand plan s → (c : ℕ) → can_send (client_at s c) ≡ true → OperationsStand plan (sends plan s c)
 send_keeps plan s k c can = go (client_at s c).left refl (client_at s c).waits refl can
   where
     sending : (op : ℕ) (left : List ℕ) → (client_at s c).left ≡ op ∷ left → (client_at s c).waits ≡ None
-        → Keeps plan (client_turn s c s.bag (next_sent plan.ops c (client_at s c) (op ∷ left)))
+        → OperationsStand plan (client_turn s c s.bag (next_sent plan.ops c (client_at s c) (op ∷ left)))
     sending op left is idle =
         turned_keeps plan op s s.bag (record { from = Client c; to = Switch; packet = request c op line } ∷ []) notes clients k others
         (λ m a tag. new_admits m a tag) (λ key. (tt, tt)) (λ o n. n, tt) (tt, tt)
@@ -291,7 +292,7 @@ send_keeps plan s k c can = go (client_at s c).left refl (client_at s c).waits r
             new entry (inr a) f = absurd a
 
     go : (left : List ℕ) → (client_at s c).left ≡ left → (w : Option ℕ) → (client_at s c).waits ≡ w → (not (is_some (client_at s c).waits) && has_next (client_at s c).left) ≡ true
-        → Keeps plan (client_turn s c s.bag (next_sent plan.ops c (client_at s c) left))
+        → OperationsStand plan (client_turn s c s.bag (next_sent plan.ops c (client_at s c) left))
     go [] is w e h = absurd (let b : has_next (client_at s c).left ≡ true = (both (not (is_some (client_at s c).waits)) (has_next (client_at s c).left) h).1 in let f : has_next (client_at s c).left ≡ false = ap has_next is in let g : true ≡ false = sym b ∙ f in cc)
     go (op ∷ left) is None e h = sending op left is e
     go (op ∷ left) is (Some o) e h = absurd (let b = (both _ _ h).0 in let f = ap (λ (x : Option ℕ). not (is_some x)) e in let g = sym b ∙ f in cc)

@@ -1,4 +1,5 @@
 -- Slots and their owners, and admissions on their way.
+use Rattle.far_invariants.specs.Slots.{IsSlotOf, FitsState, IsGiven, SlotsAreOwned, AdmissionIs, is_admission_of, admits_under, admission_count, AdmissionsInFlight}
 use Rattle.std.proofs.Common.{◌≡◌, ℕ, ◌+◌, ◌≤◌, ◌⊎◌, inl, inr, Bool, true, false, cond, List, [], ◌∷◌, ◌++◌, length, set, get_or, refl, sym, ap, ◌∙◌, subst, arith, le_trans}
 use Rattle.std.specs.Prelude.{Option, Some, None, if◌then◌else◌, ◌&&◌, slice_get}
 use Rattle.std.specs.List.{remove, count_by}
@@ -12,7 +13,6 @@ use Rattle.far_base.specs.declared.packet.Packet.TheVariants.{Admit, AdmitAck}
 use Rattle.far_base.specs.declared.slot_state.SlotState.{SlotState}
 use Rattle.far_base.specs.declared.slot_state.SlotState.TheVariants.{Free, Admitting, Held, Evicting}
 use Rattle.far_model.specs.Evictions.{state_at}
-use Rattle.far_invariants.specs.Invariants.{IsSlotOf, FitsState, IsGiven, SlotsAreOwned, AdmissionIs, is_admission_of, admits_under, admission_count, AdmissionsInFlight}
 use Rattle.far_model.specs.Members.{Among}
 use Rattle.far_model.specs.State.{State}
 use Rattle.far_model.specs.View.{SlotView, SwitchView, slot_at, empty_slot, is_key_there, bound_place, entry_if, entry_place}

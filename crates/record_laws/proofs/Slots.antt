@@ -1,14 +1,12 @@
 -- The slots of a switch: whose a slot is, and what setting one changes.
+use Rattle.far_invariants.specs.Numbers.{slot_if, entry}
 use Rattle.far_invariants.proofs.Keys.{same_key_true}
-use Rattle.std.proofs.Common.{◌≡◌, ◌≢◌, ℕ, zero, suc, ◌<◌, ◌⊎◌, inl, inr, Bool, true, false, List, [], ◌∷◌, length, refl, sym, ap, ◌∙◌, subst, arith}
+use Rattle.std.proofs.Common.{◌≡◌, ◌≢◌, ℕ, zero, suc, ◌<◌, Bool, true, false, List, [], ◌∷◌, length, refl, sym, ap, ◌∙◌, subst, arith}
 use Rattle.std.specs.Prelude.{Option, Some, None, ◌&&◌, if◌then◌else◌, get_or}
-use Rattle.std.specs.Cmp.Lexicographic.{bytes_decides}
 use Rattle.std.proofs.lemmas.Option.{same_Some}
 use Rattle.std.proofs.lemmas.List.{get_or-set_same, get_or-set_other}
-use Rattle.far_model.specs.Log.{same_key}
 use Rattle.far_model.specs.Pass.{with_slot, with_taken}
 use Rattle.far_model.specs.View.{SlotView, SwitchView, slot_at, is_key_there, next_place, bound_place, is_slot_of, entry_if, entry_place, held_record, empty_slot}
-use Rattle.far_invariants.specs.Invariants.{entry, slot_if}
 
 pub there_is : (key : List ℕ) (o : Option (List ℕ)) → is_key_there key o ≡ true → o ≡ Some key
 there_is key None h = absurd cc

@@ -1,4 +1,7 @@
 -- A step keeps everything: what each kind of step still has to show.
+use Rattle.far_invariants.specs.Numbers.{ExposedAtMost, entry, reach_by, reach, IsWritten, WouldBeCurrent}
+use Rattle.far_invariants.specs.Covers.{look}
+use Rattle.far_invariants.specs.Operations.{SendsOp, LineStands, LineIs, AdmitsOther, IsDrawn, Relies, LeftIs, SlotIs, IsOpenOrAnswered, OperationsStand}
 use Rattle.far_invariants.proofs.Noted.{IsNote, member, log_cases}
 use Rattle.far_invariants.proofs.Keys.{key_cases}
 use Rattle.std.proofs.Common.{◌≡◌, ◌≢◌, ℕ, zero, suc, ◌≤◌, max, ◌⊎◌, inl, inr, Bool, true, false, List, [], ◌∷◌, ◌++◌, length, refl, sym, ap, ◌∙◌, subst, arith}
@@ -14,7 +17,6 @@ use Rattle.far_base.specs.declared.party.Party.TheVariants.{Switch}
 use Rattle.far_model.specs.Clients.{line_of}
 use Rattle.far_model.specs.Coherent.{Rises, Earlier}
 use Rattle.far_invariants.specs.Flights.{subject, OfOperation}
-use Rattle.far_invariants.specs.Invariants.{look, entry, reach, reach_by, IsWritten, WouldBeCurrent, ExposedAtMost}
 use Rattle.far_model.specs.Members.{Among, Each, Pairs}
 use Rattle.far_model.specs.Parties.{messages_from}
 use Rattle.far_model.specs.Pass.{Passed, passed_out, outs_of}
@@ -23,7 +25,6 @@ use Rattle.far_model.specs.State.{State, client_at, line_at, now, noted, stepped
 use Rattle.far_model.specs.View.{SlotView, SwitchView}
 use Rattle.far_model.proofs.Members.{among_append, each_among}
 use Rattle.record_laws.proofs.Frame.{AboutMine, NotOn, off_shows_each, shown_lasts, shown_within, counted_on, Grows, written_lasts, line_is_lasts, relies_lasts, left_lasts, IsFresh, order_lasts}
-use Rattle.record_laws.proofs.Keeps.{SendsOp, AdmitsOther, IsDrawn, LineStands, LineIs, Relies, LeftIs, SlotIs, IsOpenOrAnswered, Keeps}
 
 -- the message is of no operation of this step
 abbrev pub IsOther : (ℕ → Type 0) → Packet → Type 0
@@ -43,9 +44,6 @@ each_part : {A : Type 0} (P Q : A → Type 0) (xs : List A) → ((x : A) → P x
 each_part P Q [] f h = tt
 each_part P Q (x ∷ xs) f h = (f x h.0, each_part P Q xs f h.1)
 
-pub about_notes : (plan : PlanView) (Mine : ℕ → Type 0) (s t : State) (notes : List LogEntry) → Each (NoteIs plan Mine s t) notes → Each (AboutMine Mine) notes
-about_notes plan Mine s t notes h = each_part (NoteIs plan Mine s t) (AboutMine Mine) notes (λ e n. n.about) h
-
 -- what is left to show of a step that grows
 pub record Holds (plan : PlanView) (t : State) : Type 0 where
   pub servers : length t.servers ≡ plan.config.servers
@@ -56,10 +54,10 @@ pub record Holds (plan : PlanView) (t : State) : Type 0 where
   pub covers : t.running ≡ true → (key : List ℕ) → ExposedAtMost plan t.log key (reach plan t key)
   pub slots : (key : List ℕ) (slot : SlotView) → entry key t.switch ≡ Some slot → SlotIs plan t key slot
 
-pub next : (plan : PlanView) (Mine : ℕ → Type 0) (notes : List LogEntry) (s t : State) → Keeps plan s → Grows plan Mine notes s t
+pub next : (plan : PlanView) (Mine : ℕ → Type 0) (notes : List LogEntry) (s t : State) → OperationsStand plan s → Grows plan Mine notes s t
     → Each (NoteIs plan Mine s t) notes → Pairs Rises notes
     → ((m : Message) → Among m t.bag → (Among m s.bag × IsOther Mine m.packet) ⊎ Relies plan t m.packet)
-    → Holds plan t → Keeps plan t
+    → Holds plan t → OperationsStand plan t
 next plan Mine notes s t k g n pairs bag h = record {
   some_server = k.some_server;
   servers = h.servers;
@@ -87,7 +85,7 @@ next plan Mine notes s t k g n pairs bag h = record {
     flight m (inr f) = f
 
 -- no number shown is greater than what the switch has counted
-pub shown_counted : (plan : PlanView) (s : State) → Keeps plan s → s.running ≡ true → (key : List ℕ) → ExposedAtMost plan s.log key s.switch.counter
+pub shown_counted : (plan : PlanView) (s : State) → OperationsStand plan s → s.running ≡ true → (key : List ℕ) → ExposedAtMost plan s.log key s.switch.counter
 shown_counted plan s k runs key = λ at op num body near a on. go at op num body near a
   where
     go : (at op num : ℕ) (body : Option (List ℕ)) (near : Bool) → Among (line_at at (Emitted op num body near)) s.log → num ≤ s.switch.counter
@@ -187,12 +185,12 @@ module _ (plan : PlanView) (Mine : ℕ → Type 0) (s : State) (rest : List Mess
           let first = shown_lasts s after notes refl plan other (max n slot.num) (c slot (sym (f.others other ne) ∙ is) old under) (off_shows_each plan other (max n slot.num) notes (f.not_on other ne)) in
           shown_within plan (noted s notes) other (max n slot.num) (max m slot.num) first (omega (arith, b))
 
-  pub pass_keeps : Keeps plan s → PassesFor plan s p.view notes key → AreOthers Mine s rest → AdmitsNone p.first → AdmitsNone p.second
+  pub pass_keeps : OperationsStand plan s → PassesFor plan s p.view notes key → AreOthers Mine s rest → AdmitsNone p.first → AdmitsNone p.second
       → (Grows plan Mine notes s after → GoesWell plan after p.first × GoesWell plan after p.second × Each (NoteIs plan Mine s after) notes)
       → Each (AboutMine Mine) notes → Pairs Rises notes
       → ((c op : ℕ) → Among op (client_at s c).left → Mine op → ⊥)
       → Each IsNoSending notes
-      → Keeps plan after
+      → OperationsStand plan after
   pass_keeps k f others a b new about pairs unsent sent =
       let g = pass_grows f others a b about in
       let w = new g in

@@ -1,9 +1,12 @@
 -- Forwards at servers: records only get greater numbers, and replies say what is there.
+use Rattle.far_invariants.specs.Numbers.{entry, reach_by, reach, IsWritten}
+use Rattle.far_invariants.specs.Covers.{look}
+use Rattle.far_invariants.specs.Operations.{EmitsOp, AnswersOp, AdmitsOther, IsDrawn, ServesOp, ReadIsForwarded, WriteIsForwarded, Relies, IsOpenOrAnswered, OperationsStand}
 use Rattle.far_invariants.proofs.Noted.{member}
 use Rattle.far_invariants.proofs.Puts.{AfterKeep, IsPut, IsLeft, after_keep, kept_other}
-use Rattle.far_invariants.proofs.Keys.{same_key_true, same_key_refl, key_cases}
+use Rattle.far_invariants.proofs.Keys.{key_cases}
 use Rattle.far_base.specs.declared.record.Versioned.{Versioned}
-use Rattle.std.proofs.Common.{◌≡◌, ◌≢◌, ℕ, ◌<◌, ◌≤◌, max, ◌⊎◌, inl, inr, Bool, true, false, List, [], ◌∷◌, ◌++◌, length, refl, sym, ap, ◌∙◌, subst, arith, le_trans, ltb-true, ltb-false}
+use Rattle.std.proofs.Common.{◌≡◌, ◌≢◌, ℕ, ◌<◌, ◌≤◌, max, ◌⊎◌, inl, inr, Bool, true, false, List, [], ◌∷◌, ◌++◌, length, refl, sym, ap, ◌∙◌, subst, arith, le_trans}
 use Rattle.std.specs.Prelude.{Option, Some, None, if◌then◌else◌, nat_lt, get_or, set, sum, ◌%◌}
 use Rattle.std.proofs.lemmas.Bool.Decides.{eqb_tells}
 use Rattle.std.proofs.lemmas.List.{get_or-set_same, get_or-set_other, set-get_or, length-set}
@@ -14,17 +17,13 @@ use Rattle.far_base.specs.declared.packet.Packet.TheVariants.{GetFwd, WriteFwd, 
 use Rattle.far_base.specs.declared.party.Party.TheVariants.{Switch, Server}
 use Rattle.far_base.specs.declared.record.Record.{Record}
 use Rattle.far_model.specs.Events.{server_turn}
-use Rattle.far_model.specs.History.{nothing, held_in}
-use Rattle.far_invariants.specs.Invariants.{look, entry, reach, reach_by, IsWritten}
-use Rattle.far_model.specs.KeyedRecords.{found, put_record}
-use Rattle.far_model.specs.Log.{same_key}
+use Rattle.far_model.specs.KeyedRecords.{found}
 use Rattle.far_model.specs.Members.{Among}
 use Rattle.far_model.specs.Servers.{record_of, server_reply, stored}
 use Rattle.far_model.specs.State.{State, client_at, records_at, now, stepped}
 use Rattle.far_model.specs.View.{SlotView, server_of}
 use Rattle.far_model.proofs.Members.{among_append}
 use Rattle.record_laws.proofs.Frame.{counted_on, absent_lasts, shown_lasts, shown_by_lasts, shown_within, Grows, serves_lasts, tagged_lasts, written_lasts, left_lasts, past}
-use Rattle.record_laws.proofs.Keeps.{EmitsOp, AnswersOp, AdmitsOther, IsDrawn, ServesOp, ReadIsForwarded, WriteIsForwarded, Relies, IsOpenOrAnswered, Keeps}
 use Rattle.record_laws.proofs.Requests.{Its}
 use Rattle.record_laws.proofs.Step.{IsOther, AreOthers, sent_before, next}
 
@@ -42,11 +41,11 @@ module _ (plan : PlanView) (op : ℕ) (s : State) (rest : List Message) (servers
   abbrev served : State
   served = record (stepped s (rest ++ reply ∷ []) []) { servers = servers }
 
-  pub served_keeps : Keeps plan s → length servers ≡ length s.servers → ((key : List ℕ) → (look plan s key).num ≤ (look plan served key).num)
+  pub served_keeps : OperationsStand plan s → length servers ≡ length s.servers → ((key : List ℕ) → (look plan s key).num ≤ (look plan served key).num)
       → ((key : List ℕ) → IsWritten plan s.log s.steps key (look plan served key).num (look plan served key).body)
       → AreOthers (Its op) s rest → ((c o : ℕ) → Among o (client_at s c).left → Its op o → ⊥) → ((tag : ℕ) → AdmitsOther tag reply.packet)
       → (Grows plan (Its op) [] s served → ((key : List ℕ) → IsWritten plan served.log served.steps key (look plan served key).num (look plan served key).body) → Relies plan served reply.packet)
-      → Keeps plan served
+      → OperationsStand plan served
   served_keeps k same more written others unsent none flies =
       next plan (Its op) [] s served k g tt tt (λ m h. bag m (among_append m rest (reply ∷ []) h)) (record {
         servers = same ∙ k.servers;
@@ -88,7 +87,7 @@ module _ (plan : PlanView) (op : ℕ) (s : State) (rest : List Message) (servers
       waits_on o (inl waits) = inl waits
       waits_on o (inr h) = inr (record { answered_at = h.answered_at; answered = member s served [] refl _ h.answered })
 
-module _ (plan : PlanView) (s : State) (k : Keeps plan s) (rest : List Message) (caller op : ℕ) (key : List ℕ) (others : AreOthers (Its op) s rest) where
+module _ (plan : PlanView) (s : State) (k : OperationsStand plan s) (rest : List Message) (caller op : ℕ) (key : List ℕ) (others : AreOthers (Its op) s rest) where
   left_unsent : ServesOp plan s caller op key → (c o : ℕ) → Among o (client_at s c).left → Its op o → ⊥
   left_unsent h c o a same = (k.left c).unsent o a _ h.sent.sent same
 
@@ -102,7 +101,7 @@ module _ (plan : PlanView) (s : State) (k : Keeps plan s) (rest : List Message) 
   its_records = records_at s its_server
 
   pub read_served : (tag : ℕ) → ReadIsForwarded plan s caller op key tag
-      → Keeps plan (server_turn s its_server rest (GetFwd caller op key tag) (server_reply its_server its_records (GetFwd caller op key tag)))
+      → OperationsStand plan (server_turn s its_server rest (GetFwd caller op key tag) (server_reply its_server its_records (GetFwd caller op key tag)))
   read_served tag h =
       let reply : Message = record { from = Server its_server; to = Switch; packet = GetRep caller op key tag (look plan s key).num (look plan s key).body } in
       let t : State = served plan op s rest (set s.servers its_server its_records) reply in
@@ -123,7 +122,7 @@ module _ (plan : PlanView) (s : State) (k : Keeps plan s) (rest : List Message) 
       })
 
   pub write_served : (num : ℕ) (body : Option (List ℕ)) → WriteIsForwarded plan s caller op key num body
-      → Keeps plan (server_turn s its_server rest (WriteFwd caller op key num body) (server_reply its_server its_records (WriteFwd caller op key num body)))
+      → OperationsStand plan (server_turn s its_server rest (WriteFwd caller op key num body) (server_reply its_server its_records (WriteFwd caller op key num body)))
   write_served num body h =
       served_keeps plan op s rest (set s.servers its_server after) reply k same_length more written others (left_unsent h.serves) (λ t. tt)
       (λ g records. record {

@@ -1,6 +1,2 @@
-//! The laws of runs: functions with no code, whose contracts are what holds in every state of every run.
+//! What numbers, records and slots keep, event by event: lemmas for the laws above, which put them together.
 #![tactic(auto)]
-
-mod runs;
-
-pub use runs::{lasting_runs_are_coherent, uncached_runs_are_coherent};

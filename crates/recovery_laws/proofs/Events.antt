@@ -1,4 +1,5 @@
 -- Every event keeps what holds across stops.
+use Rattle.far_invariants.specs.Covers.{look}
 use Rattle.std.proofs.Common.{◌≡◌, ℕ, ◌+◌, ◌<◌, ◌≤◌, ◌⊎◌, Bool, true, false, List, [], ◌∷◌, ◌++◌, append-nil, length, refl, sym, ap, ◌∙◌, subst, arith, eqb-true}
 use Rattle.std.specs.Prelude.{Option, Some, None, slice_get, ◌&&◌, ◌||◌, not, nat_eq, nat_le, is_some}
 use Rattle.std.specs.List.{remove}
@@ -17,7 +18,6 @@ use Rattle.far_base.specs.declared.record.Record.{Record}
 use Rattle.far_base.specs.declared.log.LogEntry.TheVariants.{Stopped}
 use Rattle.far_model.specs.Controller.{ControllerState, tick, wanted, evict_key, start_snapshot, start_recovery, ready, ready_in, client_told, store_answered, top_told, peek_answered, removal_answered, acknowledged, snapshot_begun, part_came, same_came}
 use Rattle.far_model.specs.Events.{Keeping, can_deliver, can_recover, choices, client_turn, controller_turn, delivers, does_order, handled, happens, happens_with, is_enabled, is_order_due, is_order_enabled, is_possible, is_switch, keeping_of, recovers, reply_at, reply_in, reply_to, restarts, sends, server_turn, stops, switch_turn, ticks, all_listed}
-use Rattle.far_invariants.specs.Invariants.{look}
 use Rattle.far_model.specs.KeyedRecords.{found}
 use Rattle.far_model.specs.Kept.{kept_records, records_in}
 use Rattle.far_model.specs.Members.{Among, is_empty}
@@ -31,7 +31,7 @@ use Rattle.far_model.specs.State.{State, client_at, records_at}
 use Rattle.far_model.specs.View.{entry_place, server_of}
 use Rattle.far_model.proofs.Members.{among_at}
 use Rattle.far_model.specs.Snapshots.{view_records}
-use Rattle.far_invariants.specs.StopNeeds.{IsAskedWell, CompletesSafely, Needs, IsGenuine}
+use Rattle.far_invariants.specs.StopNeeds.{IsAskedWell, Needs, IsGenuine}
 use Rattle.far_invariants.specs.Recoveries.{last_or, recovered_last}
 use Rattle.far_invariants.specs.Stops.{IsDrawnJob, InRound, IsUnderWay, Stops, Carried}
 use Rattle.recovery_laws.proofs.Asking.{send_idles, release_idles, ask_idles}
@@ -81,7 +81,7 @@ module _ (plan : PlanView) (kept : List Record) (s : State) (i : ℕ) (stops_s :
         stops_step plan kept kept (Its x) s t (remove s.bag i) new stops_s (calm_step plan kept (Its x) (pass_notes p (pass s.switch p)) s t (remove s.bag i) new stops_s
         (pass_calm plan kept s i x p (pass s.switch p) at (subst IsLight (sym is) light) runs stops_s calm)) (running_round runs t refl)
 
-    at_controller : (t : Turn ControllerState) → IsLight x.packet → IsRule (IsGenuine plan s) s.controller t → ((key : List ℕ) (num : ℕ) → Rattle.far_invariants.specs.StopNeeds.IsAbsorbedOn plan s.log key num → Rattle.far_invariants.specs.Covers.IsInSnapshot s key num → Rattle.far_invariants.specs.Covers.IsAtServer plan s key num ⊎ Rattle.far_invariants.specs.Covers.Covers (Rattle.far_model.specs.Snapshots.view_records t.state.last.views) key num)
+    at_controller : (t : Turn ControllerState) → IsLight x.packet → IsRule (IsGenuine plan s) s.controller t → ((key : List ℕ) (num : ℕ) → Rattle.far_invariants.specs.Covers.IsAbsorbed plan s.log key num → Rattle.far_invariants.specs.Covers.IsInSnapshot s key num → Rattle.far_invariants.specs.Covers.IsAtServer plan s key num ⊎ Rattle.far_invariants.specs.Covers.Covers (Rattle.far_model.specs.Snapshots.view_records t.state.last.views) key num)
         → RoundGoesOn plan kept (controller_turn s (remove s.bag i) t) → Stops plan kept (controller_turn s (remove s.bag i) t)
     at_controller t light rule snapshot round =
         stops_step plan kept kept (Its x) s (controller_turn s (remove s.bag i) t) (remove s.bag i) (messages_from Controller t.out) stops_s

@@ -1,4 +1,6 @@
 -- Passes of the switch: all are calm but that of a write, which gets a number and may be absorbed.
+use Rattle.far_invariants.specs.Numbers.{IsWritten, NumbersDiffer}
+use Rattle.far_invariants.specs.Covers.{IsAbsorbed}
 use Rattle.far_invariants.proofs.Noted.{IsNote, member, note_member, log_cases}
 use Rattle.std.proofs.Common.{◌≡◌, ℕ, zero, suc, ◌+◌, ◌≤◌, ◌⊎◌, inl, inr, Bool, true, false, List, [], ◌∷◌, ◌++◌, refl, sym, ap, ◌∙◌, subst, arith}
 use Rattle.std.specs.Prelude.{Option, Some, None, slice_get, if◌then◌else◌, ◌&&◌, not, nat_eq}
@@ -16,7 +18,6 @@ use Rattle.far_base.specs.declared.record.Record.{Record}
 use Rattle.far_model.specs.Clients.{line_of}
 use Rattle.far_model.specs.Controller.{ControllerState}
 use Rattle.far_model.specs.Events.{switch_turn}
-use Rattle.far_invariants.specs.Invariants.{IsWritten, NumbersDiffer}
 use Rattle.far_model.specs.Members.{Among, Each}
 use Rattle.far_model.specs.Parties.{messages_from}
 use Rattle.far_model.specs.Pass.{Passed, pass, passed_out, outs_of, dropped, sent_to, told_hot, grows_hot, hot_cell, part_of, is_as_before, part_left, with_slot, with_taken, changed_view, changes, read_passes, absorbing, write_passes, numbered, takes_reply, raised, reply_passes, is_slot_there, admits, admitted, is_under, peeks, may_go, removed_answer, removes, starts_snapshot, reads_part, pass_notes, numbered_note, emitted_note}
@@ -24,7 +25,7 @@ use Rattle.far_model.specs.State.{State, client_at, line_at, now, noted}
 use Rattle.far_model.specs.View.{SlotView, SwitchView, slot_at, entry_place, server_of, is_taken, empty_slot, shown_body, bind_key, held_record}
 use Rattle.far_model.proofs.Members.{among_at, among_append_right}
 use Rattle.flight_laws.proofs.Lists.{by_test}
-use Rattle.far_invariants.specs.StopNeeds.{IsAbsorbedOn, IsAskedWell, Needs, IsGenuine}
+use Rattle.far_invariants.specs.StopNeeds.{IsAskedWell, Needs, IsGenuine}
 use Rattle.far_invariants.specs.Stops.{Outlives, IsNewest, IsDrawnJob, Stops, IsKeptAnswer, Carried}
 use Rattle.recovery_laws.proofs.RoundSteps.{is_round_packet}
 use Rattle.recovery_laws.proofs.Steps.{Its, leaves_taken, Step, NumberArrives, IsQuiet, IsCalm, IsLight, IsUnkept, light_gone, unkept_newest, same_newest, same_preserved, same_above, unkept_answer, written_above}
@@ -192,9 +193,6 @@ passes_calm plan s _ kind h = absurd kind
 
 module _ (plan : PlanView) (kept : List Record) (s : State) (i : ℕ) (x : Message) (at : slice_get s.bag i ≡ Some x) (runs : s.running ≡ true) (stops : Stops plan kept s) (needs : Needs plan s)
     (caller op : ℕ) (key : List ℕ) (body : Option (List ℕ)) (is : x.packet ≡ WriteReq caller op key body) where
-  new_num : ℕ
-  new_num = s.switch.counter + 1
-
   asked : IsAskedWell plan s (WriteReq caller op key body)
   asked = subst (IsAskedWell plan s) is (needs.owed.asked x (among_at x s.bag i at))
 
@@ -306,7 +304,7 @@ module _ (plan : PlanView) (kept : List Record) (s : State) (i : ℕ) (x : Messa
       arrives o n a (inl b) = inl b
       arrives o n a (inr k) = inr (inr (inr (record { message = forward_out; there = among_append_right forward_out (remove s.bag i) forward_new (inl refl); is = (sym k.0, sym k.1) })))
 
-      absorbed : (k : List ℕ) (n : ℕ) (a : IsAbsorbedOn plan forward_state.log k n) → Among (line_at a.numbered_at (Numbered a.op n)) s.log ⊎ ((a.op ≡ op) × (n ≡ s.switch.counter + 1)) → IsAbsorbedOn plan s.log k n
+      absorbed : (k : List ℕ) (n : ℕ) (a : IsAbsorbed plan forward_state.log k n) → Among (line_at a.numbered_at (Numbered a.op n)) s.log ⊎ ((a.op ≡ op) × (n ≡ s.switch.counter + 1)) → IsAbsorbed plan s.log k n
       absorbed k n a (inl b) = record { op = a.op; on_key = a.on_key; numbered_at = a.numbered_at; numbered = b; absorbed = record { emitted_at = a.absorbed.emitted_at; body = a.absorbed.body; emitted = old_emitted a.absorbed.emitted_at a.op n a.absorbed.body a.absorbed.emitted } }
         where
           old_emitted : (at' o n : ℕ) (b : Option (List ℕ)) → Among (line_at at' (Emitted o n b true)) forward_state.log → Among (line_at at' (Emitted o n b true)) s.log
@@ -429,7 +427,7 @@ module _ (plan : PlanView) (kept : List Record) (s : State) (i : ℕ) (x : Messa
         arrives o n a (inl b) = inl b
         arrives o n a (inr k) = inr (inl (record { emitted_at = now s; body = None; emitted = subst (λ w. Among (line_at (now s) (Emitted w n None true)) absorbed_state.log) (sym k.0) (subst (λ w. Among (line_at (now s) (Emitted op w None true)) absorbed_state.log) (sym k.1) its_emission) }))
 
-        absorbed : (k : List ℕ) (n : ℕ) (a : IsAbsorbedOn plan absorbed_state.log k n) → Among (line_at a.numbered_at (Numbered a.op n)) s.log ⊎ ((a.op ≡ op) × (n ≡ s.switch.counter + 1)) → IsAbsorbedOn plan s.log k n ⊎ Outlives plan absorbed_state k n
+        absorbed : (k : List ℕ) (n : ℕ) (a : IsAbsorbed plan absorbed_state.log k n) → Among (line_at a.numbered_at (Numbered a.op n)) s.log ⊎ ((a.op ≡ op) × (n ≡ s.switch.counter + 1)) → IsAbsorbed plan s.log k n ⊎ Outlives plan absorbed_state k n
         absorbed k n a (inr e) = inr (inr (inr (inr (record {
           message = absorbed_out;
           there = there;

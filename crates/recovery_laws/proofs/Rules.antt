@@ -19,7 +19,7 @@ use Rattle.far_base.specs.declared.slot_state.Due.TheVariants.{Peeked, Removed}
 use Rattle.far_model.specs.Controller.{ControllerState, with_state, to_clients, to_servers, wanted, first_want_dropped, admits_want, evicts, makes_room, tick_room, tick_free, tick_want, tick_wants, tick, evict_held, evict_key, acked_state, acknowledged, drop_want_if, evicts_on, peek_answered, removal_answered, start_snapshot, completes, job_turn, snapshot_begun, part_came, same_part, same_came, is_last_present, stores_of, snapshot_stores, start_recovery, store_outs, round_turn, told_round, client_told, round_stored, store_answered, top_told}
 use Rattle.far_model.specs.Events.{controller_turn}
 use Rattle.far_model.specs.Evictions.{Eviction, Send, Store as StoreNext, Done, Kept, TRIES, after_peek, after_removal, after_store, first_place, has_key, hand_after, holds_key, is_free, is_admitting, key_in, removing, shown_item, state_at, victim, waits_for, waits_job}
-use Rattle.far_invariants.specs.Covers.{IsAtServer, Covers, IsInSnapshot}
+use Rattle.far_invariants.specs.Covers.{IsAtServer, Covers, IsInSnapshot, IsAbsorbed}
 use Rattle.far_model.specs.Members.{Among, Each}
 use Rattle.far_model.specs.Parties.{Turn, idle, messages_from, to_party}
 use Rattle.far_model.specs.Rounds.{Round, has_told, asks_tops, telling_at}
@@ -27,7 +27,7 @@ use Rattle.far_model.specs.Snapshots.{Job, has_begun, has_part, is_whole, comple
 use Rattle.far_model.specs.State.{State}
 use Rattle.far_model.proofs.Members.{among_map_from, each_among}
 use Rattle.flight_laws.proofs.Lists.{by_test}
-use Rattle.far_invariants.specs.StopNeeds.{IsAbsorbedOn, CompletesSafely, next_job, begun_job, part_job, same_job, same_view_job, IsGenuine}
+use Rattle.far_invariants.specs.StopNeeds.{CompletesSafely, next_job, begun_job, part_job, same_job, same_view_job, IsGenuine}
 use Rattle.far_invariants.specs.Stops.{Outlives, IsDrawnJob, Stops, Carried}
 use Rattle.recovery_laws.proofs.Steps.{Leaves, Step, HasArrived, IsQuiet, IsUnkept, unkept_newest, same_newest, same_preserved, same_above, quiet_numbered, quiet_absorbed, quiet_differ, unkept_answer}
 
@@ -68,7 +68,7 @@ each_append P (x ∷ xs) ys h k = (h.0, each_append P xs ys h.1 k)
 
 pub rule_step : (plan : PlanView) (kept : List Record) (Gone : Message → Type 0) (s : State) (rest : List Message) (t : Turn ControllerState) (d : ℕ) → Stops plan kept s → Leaves Gone s rest
     → ((m : Message) → Gone m → HasArrived plan s (record (controller_turn s rest t) { done = d }) m.packet) → IsRule (IsGenuine plan s) s.controller t
-    → ((key : List ℕ) (num : ℕ) → IsAbsorbedOn plan s.log key num → IsInSnapshot s key num → IsAtServer plan s key num ⊎ Covers (view_records t.state.last.views) key num)
+    → ((key : List ℕ) (num : ℕ) → IsAbsorbed plan s.log key num → IsInSnapshot s key num → IsAtServer plan s key num ⊎ Covers (view_records t.state.last.views) key num)
     → Step plan Gone s (record (controller_turn s rest t) { done = d }) rest (messages_from Controller t.out)
 rule_step plan kept Gone s rest t d h leaves gone f snapshot = record {
   leaves = leaves;
@@ -107,7 +107,7 @@ rule_step plan kept Gone s rest t d h leaves gone f snapshot = record {
     moved key num (inl b) = inl b
     moved key num (inr c) = inr (inl c)
 
-pub calm_snapshot : (plan : PlanView) (s : State) (t : Turn ControllerState) → t.state.last ≡ s.controller.last → (key : List ℕ) (num : ℕ) → IsAbsorbedOn plan s.log key num → IsInSnapshot s key num → IsAtServer plan s key num ⊎ Covers (view_records t.state.last.views) key num
+pub calm_snapshot : (plan : PlanView) (s : State) (t : Turn ControllerState) → t.state.last ≡ s.controller.last → (key : List ℕ) (num : ℕ) → IsAbsorbed plan s.log key num → IsInSnapshot s key num → IsAtServer plan s key num ⊎ Covers (view_records t.state.last.views) key num
 calm_snapshot plan s t e key num a b = inr (subst (λ (v : Rattle.far_model.specs.Snapshots.SnapshotView). Covers (view_records v.views) key num) (sym e) b)
 
 -- ---- the rules
@@ -359,7 +359,7 @@ module _ (P : Record → Type 0) (config : Config) where
 
 -- what the last snapshot covered, the new one or a server does
 pub job_snapshot : (plan : PlanView) (s : State) (packet : Packet) (t : Turn ControllerState) → CompletesSafely plan s packet → (t.state.last ≡ s.controller.last) ⊎ ((job : Job) × (next_job s.controller packet ≡ Some job) × (is_whole job ≡ true) × (t.state.last ≡ completed job))
-    → (key : List ℕ) (num : ℕ) → IsAbsorbedOn plan s.log key num → IsInSnapshot s key num → IsAtServer plan s key num ⊎ Covers (view_records t.state.last.views) key num
+    → (key : List ℕ) (num : ℕ) → IsAbsorbed plan s.log key num → IsInSnapshot s key num → IsAtServer plan s key num ⊎ Covers (view_records t.state.last.views) key num
 job_snapshot plan s packet t safe (inl e) key num a b = calm_snapshot plan s t e key num a b
 job_snapshot plan s packet t safe (inr p) key num a b = go (safe p.0 p.1 p.2 key num a b)
   where

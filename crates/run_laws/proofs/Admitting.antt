@@ -1,4 +1,5 @@
 -- An admission at the switch: what slots are afterwards, whatever keepers answer.
+use Rattle.far_invariants.specs.Slots.{IsSlotOf, FitsState, IsGiven, is_admission_of, admits_under, admission_count}
 use Rattle.std.proofs.Common.{◌≡◌, ◌≢◌, ℕ, ◌<◌, ◌≤◌, ◌⊎◌, inl, inr, Bool, true, false, cond, List, [], ◌∷◌, ◌++◌, length, map, refl, sym, ap, ◌∙◌, subst, arith, eq-eqb, ne_eqb, eqb-true, lt-ltb}
 use Rattle.std.specs.Prelude.{Some, None, if◌then◌else◌, ◌&&◌, nat_eq, nat_lt, slice_get}
 use Rattle.std.specs.List.{remove, count_by}
@@ -14,7 +15,6 @@ use Rattle.far_base.specs.declared.plan.Config.{Config}
 use Rattle.far_base.specs.declared.slot_state.SlotState.TheVariants.{Admitting}
 use Rattle.far_model.specs.Events.{switch_turn}
 use Rattle.far_model.specs.Evictions.{state_at}
-use Rattle.far_invariants.specs.Invariants.{IsSlotOf, FitsState, IsGiven, is_admission_of, admits_under, admission_count}
 use Rattle.far_model.specs.Members.{Among}
 use Rattle.far_model.specs.Pass.{admits, dropped, is_slot_there, sent_to}
 use Rattle.far_model.specs.State.{State}
@@ -22,7 +22,6 @@ use Rattle.far_model.specs.View.{SlotView, slot_at, entry_place, unbound}
 use Rattle.far_model.proofs.Members.{among_append, among_at, among_remove}
 use Rattle.record_laws.proofs.Admissions.{nat_cases}
 use Rattle.record_laws.proofs.Bindings.{length-map, new_slot, admit_view, view_here, view_there, place_here, place_stays}
-use Rattle.record_laws.proofs.Keeps.{AdmitsOther}
 use Rattle.record_laws.proofs.Seats.{counted, count_removed, count_append, count_one, owner}
 use Rattle.record_laws.proofs.Slots.{both}
 use Rattle.record_laws.proofs.Arrivals.{none_left, state_within}
@@ -46,13 +45,6 @@ module _ (plan : PlanView) (s : State) (config_is : s.switch.config ≡ plan.con
 
   its : AdmissionStands s (Admit epoch i key tag)
   its = h.admissions.packets _ there_in_bag
-
-  others_tag : (m : Message) → Among m rest → AdmitsOther tag m.packet
-  others_tag m a = go m.packet (λ e. none_left s n admission (λ q. admits_under tag q) at (eq-eqb tag tag refl) (h.admissions.once tag) m a e)
-    where
-      go : (q : Packet) → (admits_under tag q ≡ true → ⊥) → AdmitsOther tag q
-      go (Admit e j other own) none = λ same. none (eq-eqb own tag same)
-      go _ none = tt
 
   module _ (is_there : is_slot_there s.switch epoch i ≡ true) where
     same_epoch : epoch ≡ s.controller.epoch

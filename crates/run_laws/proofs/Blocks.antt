@@ -1,6 +1,8 @@
 -- Each restart that the log tells of left the newest of what was kept, no older than any answer before.
-use Rattle.std.proofs.Common.{◌≡◌, ◌≢◌, ℕ, zero, suc, ◌+◌, ◌<◌, ◌≤◌, ◌⊎◌, inl, inr, true, false, leb, List, [], ◌∷◌, ◌++◌, length, map, refl, sym, ap, ◌∙◌, subst, arith, le_trans}
-use Rattle.std.specs.Prelude.{Option, Some, None, is_some}
+use Rattle.far_invariants.specs.Covers.{look}
+use Rattle.far_invariants.specs.Holds.{Holds}
+use Rattle.std.proofs.Common.{◌≡◌, ℕ, zero, suc, ◌+◌, ◌<◌, ◌≤◌, ◌⊎◌, inl, inr, true, false, leb, List, [], ◌∷◌, ◌++◌, length, map, refl, sym, ap, ◌∙◌, subst, arith, le_trans}
+use Rattle.std.specs.Prelude.{Some, is_some}
 use Rattle.std.specs.Ordering.{nat_cmp}
 use Rattle.std.specs.Cmp.Lexicographic.{slice_cmp}
 use Rattle.std.proofs.lemmas.Bool.Decides.{leb_tells}
@@ -11,25 +13,23 @@ use Rattle.far_base.specs.declared.event.Event.{Event}
 use Rattle.far_base.specs.declared.event.Event.TheVariants.{Send, Deliver, Tick, Recover, Restart, Order as OrderOf}
 use Rattle.far_base.specs.declared.kept.KeptItem.{KeptItem}
 use Rattle.far_base.specs.declared.log.LogEntry.{LogEntry}
-use Rattle.far_base.specs.declared.log.LogEntry.TheVariants.{Sent, Numbered, Emitted, Answered, Admitted, Evicted, Kept, Snapped, SnapItem, Stopped, Recovered, RecItem}
+use Rattle.far_base.specs.declared.log.LogEntry.TheVariants.{Sent, Answered, Recovered}
 use Rattle.far_base.specs.declared.log.LogLine.{LogLine}
 use Rattle.far_base.specs.declared.record.Record.{Record}
 use Rattle.far_model.specs.Blocks.{RecoveredBlock, block_at, recovered_blocks, recovered_items}
 use Rattle.far_model.specs.Clients.{line_of}
 use Rattle.far_model.specs.Controller.{ready}
-use Rattle.far_model.specs.Events.{all_listed, all_records, happens, is_enabled, keeping_of, recovery_items}
+use Rattle.far_model.specs.Events.{all_listed, all_records, happens, keeping_of, recovery_items}
 use Rattle.far_model.specs.History.{IsKeyBefore}
 use Rattle.far_model.specs.Kept.{kept_after, kept_at_recovery, records_in}
-use Rattle.far_model.specs.KeyedRecords.{by_key, found}
+use Rattle.far_model.specs.KeyedRecords.{found}
 use Rattle.far_model.specs.Log.{exposed}
-use Rattle.far_model.specs.Members.{Among, Each, Pairs}
+use Rattle.far_model.specs.Members.{Each, Pairs}
 use Rattle.far_model.specs.Runs.{IsRun, run}
 use Rattle.far_model.specs.State.{State, line_at, noted, now, opening, records_at}
 use Rattle.far_model.specs.View.{server_of}
-use Rattle.far_model.proofs.Members.{each_among, each_from_among}
 use Rattle.far_model.proofs.Runs.{is_run_left, is_run_right, run_append}
 use Rattle.far_invariants.proofs.Records.{Apart, by_key_there, found_member, found_some}
-use Rattle.far_invariants.specs.Invariants.{look}
 use Rattle.far_invariants.specs.Notes.{EventNotes, IsOfNone, IsPassNote, OfAnswer, OfNone, OfPass, OfRestart, OfSending}
 use Rattle.far_invariants.specs.Past.{Past, no_past, past_from, past_of, remembers}
 use Rattle.far_invariants.specs.Recoveries.{BlockIsRestart, BlocksAreRestarts, last_or, recovered_last}
@@ -40,7 +40,7 @@ use Rattle.record_laws.proofs.Meanings.{log_sound}
 use Rattle.recovery_laws.proofs.Exposing.{exposed_within}
 use Rattle.recovery_laws.proofs.KeptLists.{all_there}
 use Rattle.recovery_laws.proofs.Laws.{restart_restores}
-use Rattle.run_laws.proofs.Holding.{Holds, seats_need, stops_need}
+use Rattle.run_laws.proofs.Holding.{seats_need, stops_need}
 use Rattle.run_laws.proofs.Steps.{holds}
 
 -- ---- blocks of a log that grows

@@ -1,7 +1,9 @@
 -- Turns of the controller that change the state of one slot, while the switch runs or not.
+use Rattle.far_invariants.specs.Slots.{IsSlotOf, FitsState, IsGiven, is_admission_of, admits_under, admission_count}
+use Rattle.far_invariants.specs.Operations.{AdmitsOther, IsDrawn, Relies, OperationsStand}
 use Rattle.far_invariants.proofs.Keys.{same_key_refl}
-use Rattle.std.proofs.Common.{◌≡◌, ◌≢◌, ℕ, ◌+◌, ◌<◌, ◌≤◌, ◌⊎◌, inl, inr, Bool, true, false, cond, List, [], ◌∷◌, ◌++◌, length, refl, sym, ap, ◌∙◌, subst, arith, eq-eqb, ne_eqb}
-use Rattle.std.specs.Prelude.{Option, Some, None, ◌&&◌, if◌then◌else◌, nat_eq, slice_get, get_or}
+use Rattle.std.proofs.Common.{◌≡◌, ◌≢◌, ℕ, ◌<◌, ◌≤◌, ◌⊎◌, inl, inr, Bool, true, false, cond, List, [], ◌∷◌, ◌++◌, length, refl, sym, ap, ◌∙◌, subst, arith, eq-eqb, ne_eqb}
+use Rattle.std.specs.Prelude.{Option, Some, None, ◌&&◌, if◌then◌else◌, nat_eq, slice_get}
 use Rattle.std.specs.List.{remove, count_by}
 use Rattle.std.proofs.lemmas.List.{get_or-set_same, get_or-set_other, length-set}
 use Rattle.far_base.specs.PlanView.{PlanView}
@@ -16,7 +18,6 @@ use Rattle.far_base.specs.declared.slot_state.SlotState.TheVariants.{Free, Admit
 use Rattle.far_model.specs.Controller.{ControllerState, acked_state, acknowledged, admits_want, with_state}
 use Rattle.far_model.specs.Events.{controller_turn}
 use Rattle.far_model.specs.Evictions.{first_place, has_key, is_admitting, is_free, key_in, state_at}
-use Rattle.far_invariants.specs.Invariants.{IsSlotOf, FitsState, IsGiven, is_admission_of, admits_under, admission_count}
 use Rattle.far_model.specs.Members.{Among}
 use Rattle.far_model.specs.Parties.{Turn, idle}
 use Rattle.far_model.specs.State.{State}
@@ -25,7 +26,6 @@ use Rattle.far_model.proofs.Members.{among_append, among_at, among_remove}
 use Rattle.record_laws.proofs.Admissions.{first_none, first_some, free_is, nat_cases, no_self}
 use Rattle.record_laws.proofs.Arrivals.{none_left, state_within}
 use Rattle.record_laws.proofs.Controls.{Controls, controls_keep, slot_stays}
-use Rattle.record_laws.proofs.Keeps.{AdmitsOther, IsDrawn, Relies, Keeps}
 use Rattle.record_laws.proofs.Seats.{counted, count_append, count_none, count_one, count_removed, SameBag, no_admission_of, admits_no_tag, is_admission_packet}
 use Rattle.eviction_laws.proofs.Steady.{no_steady, turn_keeps}
 use Rattle.far_invariants.specs.Seated.{AdmissionStands, Seated}
@@ -131,7 +131,7 @@ module _ (plan : PlanView) (s : State) (key : List ℕ) (i : ℕ) (free : first_
   others_stay : (j : ℕ) → j ≢ i → state_at asked.controller.slots j ≡ state_at s.controller.slots j
   others_stay j ne = get_or-set_other s.controller.slots i j (Admitting key s.controller.next_tag) Free ne
 
-  pub want_keeps : Keeps plan s → Keeps plan asked
+  pub want_keeps : OperationsStand plan s → OperationsStand plan asked
   want_keeps k = controls_keep plan [] s asked k f (λ other. slot_stays plan [] s asked k f other refl)
     where
       message : (m : Message) → Among m s.bag ⊎ Among m (asking ∷ []) → Among m s.bag ⊎ (Relies plan asked m.packet × ((tag : ℕ) → IsDrawn s tag → AdmitsOther tag m.packet))
@@ -391,5 +391,5 @@ module _ (plan : PlanView) (s : State) (h : Seated plan s) (n : ℕ) (from to : 
   pub ack_sits : Seated plan (controller_turn s left_over (acknowledged s.controller i tag))
   ack_sits = acks (Seated plan) held_sits
 
-  pub ack_keeps : Keeps plan s → Keeps plan (controller_turn s left_over (acknowledged s.controller i tag))
-  ack_keeps k = acks (Keeps plan) (turn_keeps plan s left_over held_turn s.done k (λ m a. among_remove m s.bag n a) no_steady (tt, tt) (omega arith))
+  pub ack_keeps : OperationsStand plan s → OperationsStand plan (controller_turn s left_over (acknowledged s.controller i tag))
+  ack_keeps k = acks (OperationsStand plan) (turn_keeps plan s left_over held_turn s.done k (λ m a. among_remove m s.bag n a) no_steady (tt, tt) (omega arith))

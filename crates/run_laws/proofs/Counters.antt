@@ -1,4 +1,5 @@
 -- Where counters come from, over every event.
+use Rattle.far_invariants.specs.Numbers.{IsWritten}
 use Rattle.far_invariants.proofs.Noted.{member, note_member}
 use Rattle.std.proofs.Common.{◌≡◌, ℕ, zero, suc, ◌+◌, ◌-◌, ◌<◌, ◌≤◌, ◌⊎◌, inl, inr, max, Bool, true, false, not, List, [], ◌∷◌, ◌++◌, length, refl, sym, ap, ◌∙◌, subst, arith}
 use Rattle.std.specs.Prelude.{Option, Some, None, if◌then◌else◌, ◌&&◌, ◌||◌, is_some, slice_get, slice_set, slice_index_or, nat_eq, nat_le, nat_lt}
@@ -26,7 +27,6 @@ use Rattle.far_model.specs.Controller.{ControllerState, with_state, wanted, firs
 use Rattle.far_model.specs.Events.{Keeping, happens, happens_with, keeping_of, handled, delivers, reply_to, reply_at, sends, ticks, recovers, restarts, stops, does_order, next_sent, all_listed, client_turn, controller_turn, switch_turn, server_turn, reply_message, can_deliver, can_deliver_some, is_switch, is_enabled}
 use Rattle.far_model.specs.Evictions.{Eviction, Next, Send as SendNext, Store as StoreNext, Done, Kept, after_peek, after_removal, after_store, first_place, has_key, holds_key, is_admitting, is_free, key_in, removing, state_at, victim, waits_for, waits_job}
 use Rattle.far_invariants.specs.Flights.{IsRouted, IsFrom}
-use Rattle.far_invariants.specs.Invariants.{IsWritten}
 use Rattle.far_model.specs.Members.{Among}
 use Rattle.far_model.specs.Parties.{Turn, idle, messages_from, to_party}
 use Rattle.far_model.specs.Pass.{Passed, pass, passed_out, pass_notes, dropped, changes, with_slot, with_taken, changed_view, read_passes, absorbing, takes_reply, raised, reply_passes, is_slot_there, admits, peeks, may_go, removed_answer, removes, starts_snapshot, reads_part, part_of, sent_to}

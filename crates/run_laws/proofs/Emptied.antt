@@ -1,6 +1,7 @@
 -- A stopped switch has no memory.
-use Rattle.std.proofs.Common.{◌≡◌, ℕ, ◌+◌, Bool, true, false, not, refl, sym, ap, ◌∙◌}
-use Rattle.std.specs.Prelude.{Option, Some, None, ◌||◌, is_some, slice_get}
+use Rattle.far_invariants.specs.Holds.{IsEmptied}
+use Rattle.std.proofs.Common.{◌≡◌, ℕ, ◌+◌, true, false, not, refl, sym, ap, ◌∙◌}
+use Rattle.std.specs.Prelude.{Option, Some, None, ◌||◌, slice_get}
 use Rattle.std.specs.List.{remove}
 use Rattle.far_base.specs.PlanView.{PlanView}
 use Rattle.far_base.specs.declared.event.Event.{Event}
@@ -15,10 +16,6 @@ use Rattle.far_model.specs.Controller.{ControllerState, ready, tick}
 use Rattle.far_model.specs.Events.{Keeping, can_deliver_some, delivers, does_order, handled, happens_with, is_enabled, is_switch, restarts, ticks}
 use Rattle.far_model.specs.Parties.{Turn}
 use Rattle.far_model.specs.State.{State}
-use Rattle.far_model.specs.View.{opening_view}
-
-abbrev pub IsEmptied : PlanView → State → Type 0
-IsEmptied plan s = s.running ≡ false → s.switch ≡ opening_view plan.config 0 0
 
 module _ (plan : PlanView) (k : Keeping) (s : State) (h : IsEmptied plan s) where
   handled_empty : (i : ℕ) (to : Party) (p : Packet) → (s.running || not (is_switch to)) ≡ true → IsEmptied plan (handled plan k s (remove s.bag i) to p)

@@ -1,4 +1,5 @@
 -- A removal at the switch: what slots are afterwards, whatever keepers answer.
+use Rattle.far_invariants.specs.Slots.{FitsState, IsGiven, is_admission_of, admits_under}
 use Rattle.std.proofs.Common.{◌≡◌, ◌≢◌, ℕ, ◌<◌, ◌⊎◌, inl, inr, Bool, true, false, List, length, refl, sym, ap, ◌∙◌, subst, arith, eqb-true}
 use Rattle.std.specs.Prelude.{Some, None, if◌then◌else◌, nat_eq, nat_lt, slice_get}
 use Rattle.std.specs.List.{remove}
@@ -12,7 +13,6 @@ use Rattle.far_base.specs.declared.party.Party.TheVariants.{Switch, Controller}
 use Rattle.far_base.specs.declared.slot_state.SlotState.TheVariants.{Admitting, Evicting}
 use Rattle.far_model.specs.Events.{switch_turn}
 use Rattle.far_model.specs.Evictions.{Eviction, state_at}
-use Rattle.far_invariants.specs.Invariants.{FitsState, IsGiven, is_admission_of, admits_under}
 use Rattle.far_model.specs.Members.{Among}
 use Rattle.far_model.specs.Parties.{messages_from}
 use Rattle.far_model.specs.Pass.{Passed, changes, dropped, is_as_before, is_slot_there, is_under, may_go, part_left, part_of, passed_out, removed_answer, removes, sent_to, with_slot, with_taken}

@@ -1,4 +1,7 @@
 -- Records everywhere were written: what follows from numbers, stops, evictions and snapshots together.
+use Rattle.far_invariants.specs.Numbers.{slot_if, IsWritten, CarriesWritten}
+use Rattle.far_invariants.specs.Covers.{look}
+use Rattle.far_invariants.specs.Holds.{Numbers}
 use Rattle.far_base.specs.declared.record.Versioned.{Versioned}
 use Rattle.std.proofs.Common.{◌≡◌, ℕ, ◌⊎◌, inl, inr, Bool, true, false, List, refl, sym, ap, ◌∙◌, subst, arith}
 use Rattle.std.specs.Prelude.{Option, Some, None, if◌then◌else◌}
@@ -10,7 +13,6 @@ use Rattle.far_base.specs.declared.record.Record.{Record}
 use Rattle.far_model.specs.Clients.{answered_record}
 use Rattle.far_model.specs.Evictions.{Eviction}
 use Rattle.far_invariants.specs.Flights.{OneFlightPerOperation}
-use Rattle.far_invariants.specs.Invariants.{CarriesWritten, IsWritten, look, slot_if}
 use Rattle.far_model.specs.KeyedRecords.{found}
 use Rattle.far_model.specs.Members.{Among}
 use Rattle.far_invariants.specs.Past.{SnapshotStart}
@@ -25,7 +27,6 @@ use Rattle.far_invariants.proofs.Records.{found_member}
 use Rattle.recovery_laws.proofs.Steps.{client_genuine}
 use Rattle.far_invariants.specs.Snapshots.{HadView, IsLast, PacketStands, SnapshotsStand, gathering}
 use Rattle.flight_laws.proofs.SnapMeanings.{in_records}
-use Rattle.run_laws.specs.Numbers.{Numbers}
 use Rattle.far_invariants.specs.Records.{AnswerIsWritten, IsRecord, ItemIs, PacketIsWritten, RecordsEverywhere, Shown, StartsAreWritten, ViewIsRecord}
 
 -- ---- what a slot holds

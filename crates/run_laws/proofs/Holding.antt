@@ -1,10 +1,10 @@
 -- All invariants, and how what each subject needs follows from the others.
-use Rattle.far_invariants.specs.Records.{Shown, StartsAreWritten}
-use Rattle.far_invariants.specs.Seated.{Seated}
+use Rattle.far_invariants.specs.Numbers.{slot_if, IsWritten}
+use Rattle.far_invariants.specs.Holds.{Numbers, Holds}
+use Rattle.far_invariants.specs.Operations.{Relies}
 use Rattle.run_laws.proofs.Needing.{evictions_need as needed_of_slots}
 use Rattle.run_laws.proofs.Meeting.{numbers_need}
 use Rattle.far_invariants.specs.SeatNeeds.{Needs as SeatNeeds}
-use Rattle.run_laws.specs.Numbers.{Numbers}
 use Rattle.std.proofs.Common.{◌≡◌, ℕ, zero, suc, ◌≤◌, ◌⊎◌, inl, inr, Bool, true, false, not, List, [], length, refl, sym, ap, ◌∙◌, subst, arith, le_trans}
 use Rattle.std.specs.Prelude.{Option, Some, None, if◌then◌else◌, ◌&&◌, ◌||◌, is_some, slice_get, nat_eq, nat_lt}
 use Rattle.std.proofs.lemmas.Option.{same_Some}
@@ -12,22 +12,20 @@ use Rattle.far_base.specs.Limits.{IsPlan}
 use Rattle.far_base.specs.PlanView.{PlanView}
 use Rattle.far_base.specs.declared.event.Event.TheVariants.{Deliver, Restart}
 use Rattle.far_base.specs.declared.log.LogEntry.TheVariants.{Numbered}
-use Rattle.far_base.specs.declared.log.LogLine.{LogLine}
 use Rattle.far_base.specs.declared.packet.Message.{Message}
 use Rattle.far_base.specs.declared.packet.Out.{Out}
 use Rattle.far_base.specs.declared.packet.Packet.{Packet}
-use Rattle.far_base.specs.declared.packet.Packet.TheVariants.{GetReq, WriteReq, WriteFwd, WriteAns, Admit, AdmitAck, PeekAns, RemoveAns, SnapBegun, SnapPart, Release, Told, SnapSame}
+use Rattle.far_base.specs.declared.packet.Packet.TheVariants.{GetReq, WriteReq, WriteFwd, WriteAns, PeekAns, RemoveAns, SnapBegun, SnapPart, Release, Told, SnapSame}
 use Rattle.far_base.specs.declared.party.Party.TheVariants.{Controller}
 use Rattle.far_base.specs.declared.record.Record.{Record}
 use Rattle.far_model.specs.Clients.{line_of}
 use Rattle.far_model.specs.Controller.{ControllerState, ready, completes, job_turn, snapshot_begun, part_came, same_part, same_came, controller_takes}
 use Rattle.far_model.specs.Events.{happens, is_enabled, keeping_of, restarts, controller_turn, handled, is_switch, all_listed, reply_at, delivers, can_deliver_some, reply_to}
-use Rattle.far_model.specs.Evictions.{Eviction, state_at}
-use Rattle.far_invariants.specs.Flights.{IsRouted, OneFlightPerOperation, subject}
+use Rattle.far_model.specs.Evictions.{Eviction}
+use Rattle.far_invariants.specs.Flights.{subject}
 use Rattle.far_base.specs.declared.record.Versioned.{Versioned}
-use Rattle.far_invariants.specs.Invariants.{IsWritten, AdmissionIs, look, slot_if}
 use Rattle.far_model.specs.KeyedRecords.{found}
-use Rattle.far_invariants.specs.Covers.{IsAtServer, IsInSlot, IsInSnapshot, Covers}
+use Rattle.far_invariants.specs.Covers.{IsAtServer, IsInSlot, IsInSnapshot, Covers, IsAbsorbed, look}
 use Rattle.far_model.specs.Log.{is_read}
 use Rattle.far_model.specs.Members.{Among}
 use Rattle.far_model.specs.Parties.{Turn, idle}
@@ -35,64 +33,24 @@ use Rattle.far_invariants.specs.Past.{Past}
 use Rattle.far_model.specs.Rounds.{Round}
 use Rattle.far_model.specs.Snapshots.{Job, SnapshotView, no_snapshot, has_begun, has_part, is_whole, completed, view_records, with_part, with_same, part_reads}
 use Rattle.far_model.specs.State.{State, records_at, line_at}
-use Rattle.far_model.specs.View.{SlotView, slot_at, held_record, opening_view, entry_place, empty_slot, keyed_record}
+use Rattle.far_model.specs.View.{SlotView, slot_at, held_record, empty_slot, keyed_record}
 use Rattle.far_model.proofs.Members.{place_of}
-use Rattle.flight_laws.proofs.Handling.{IsInFlight}
 use Rattle.flight_laws.proofs.Lists.{get_or-replicate_default}
-use Rattle.record_laws.proofs.Keeps.{Keeps, Relies}
-use Rattle.record_laws.proofs.Seats.{owner}
-use Rattle.far_invariants.specs.DrawnTags.{TagsAreDrawn}
-use Rattle.far_invariants.specs.Evictions.{EvictionsAreSound, EvictionPacketIs, written_in}
-use Rattle.far_invariants.specs.EvictionNeeds.{Needs as EvictionNeeds, PacketNeeds, RoundNeeds, PacketsAreOnKey, ToldIsWritten, ItemIsWritten}
-use Rattle.far_invariants.specs.Known.{ShownIsKnown, IsKnown as IsKnownShown, WasAbsorbed, PacketIsKnown}
+use Rattle.far_invariants.specs.Evictions.{EvictionPacketIs, written_in}
+use Rattle.far_invariants.specs.EvictionNeeds.{Needs as EvictionNeeds, RoundNeeds, PacketsAreOnKey, ToldIsWritten, ItemIsWritten}
+use Rattle.far_invariants.specs.Known.{PacketIsKnown}
 use Rattle.eviction_laws.proofs.Meaning.{absorbed_is_cached}
-use Rattle.eviction_laws.proofs.Needing.{held_fits, keys_met}
-use Rattle.far_invariants.specs.StopNeeds.{IsAbsorbedOn, IsKnown, IsSafe, IsAskedWell, IsGenuine, ShowsGenuine, IsReleasedSafely, begun_job, part_job, same_view_job, same_job, next_job, CompletesSafely, Owed, Needs as StopNeeds}
+use Rattle.eviction_laws.proofs.Needing.{keys_met}
+use Rattle.far_invariants.specs.StopNeeds.{IsSafe, IsAskedWell, IsGenuine, ShowsGenuine, IsReleasedSafely, begun_job, part_job, same_view_job, same_job, next_job, CompletesSafely, Owed, Needs as StopNeeds}
 use Rattle.far_invariants.specs.Recoveries.{recovered_last}
-use Rattle.far_invariants.specs.Stops.{Stops, Carried}
+use Rattle.far_invariants.specs.Stops.{Carried}
 use Rattle.recovery_laws.proofs.Laws.{restart_restores}
 use Rattle.far_invariants.proofs.Records.{found_member}
 use Rattle.far_invariants.specs.SnapshotNeeds.{Needs as SnapshotNeeds, IsUnnumberedRead}
-use Rattle.far_invariants.specs.SnapshotFlights.{SnapshotsInFlight}
-use Rattle.far_invariants.specs.Snapshots.{SnapshotsStand, IsAbsorbed, WasDrawn, view_at, IsInViews, IsLast, PacketStands}
+use Rattle.far_invariants.specs.Snapshots.{IsInViews, IsLast, PacketStands}
 use Rattle.flight_laws.proofs.SnapCompleting.{event_covers}
 use Rattle.flight_laws.proofs.SnapMeanings.{in_records, views_cover}
 use Rattle.flight_laws.proofs.SnapOwing.{written_agree}
-use Rattle.far_invariants.specs.Counters.{CountersAreDrawn}
-use Rattle.far_invariants.specs.Sound.{IsSound}
-use Rattle.far_invariants.specs.InFlight.{epoch_in, AdmissionFits}
-
--- all that a run carries from state to state
-pub record Holds (plan : PlanView) (past : Past) (s : State) : Type 0 where
-  pub flight : IsInFlight plan s
-  pub sound : IsSound plan s
-  pub keeps : Keeps plan s
-  pub seated : Seated plan s
-  pub shown : Shown plan s
-  pub empty : s.running ≡ false → s.switch ≡ opening_view plan.config 0 0
-  pub evictions : EvictionsAreSound plan s
-  pub known : ShownIsKnown plan s
-  pub drawn : TagsAreDrawn s past.drawn
-  pub stops : Stops plan (recovered_last past) s
-  pub snapshots : SnapshotsStand true plan s past.starts
-  pub serving : SnapshotsInFlight plan s past.starts
-  pub starts : StartsAreWritten plan s past.starts
-  pub counters : CountersAreDrawn s
-
--- ---- the forms of one fact
-
-pub on_from_was : (plan : PlanView) (log : List LogLine) (key : List ℕ) (num : ℕ) → WasAbsorbed plan log key num → IsAbsorbedOn plan log key num
-on_from_was plan log key num a = record { op = a.op; on_key = a.on_key; numbered_at = a.numbered_at; numbered = a.numbered; absorbed = record { emitted_at = a.emitted_at; body = a.body; emitted = a.emitted } }
-
-pub known_from_shown : (plan : PlanView) (s : State) (key : List ℕ) (num : ℕ) → IsKnownShown plan s key num → IsKnown plan s key num
-known_from_shown plan s key num (inl a) = inl (on_from_was plan s.log key num a)
-known_from_shown plan s key num (inr b) = inr b
-
-pub by_plan_from_on : (plan : PlanView) (log : List LogLine) (key : List ℕ) (num : ℕ) → IsAbsorbedOn plan log key num → IsAbsorbed plan log key num
-by_plan_from_on plan log key num a = record { op = a.op; on_key = a.on_key; numbered_at = a.numbered_at; numbered = a.numbered; emitted_at = a.absorbed.emitted_at; body = a.absorbed.body; emitted = a.absorbed.emitted }
-
-was_from_by_plan : (plan : PlanView) (log : List LogLine) (key : List ℕ) (num : ℕ) → IsAbsorbed plan log key num → WasAbsorbed plan log key num
-was_from_by_plan plan log key num a = record { op = a.op; on_key = a.on_key; numbered_at = a.numbered_at; numbered = a.numbered; emitted_at = a.emitted_at; body = a.body; emitted = a.emitted }
 
 some_round : (o : Option Round) → is_some o ≡ true → (r : Round) × (o ≡ Some r)
 some_round None e = absurd cc
@@ -205,14 +163,14 @@ module _ (plan : PlanView) (past : Past) (s : State) (valid : IsPlan plan) (h : 
   unnumbered_read _ r = tt
 
   shown : (p : Packet) → EvictionPacketIs plan (written_in plan) s p → PacketIsKnown plan s p → ShowsGenuine plan s p
-  shown (PeekAns i tag latest num body) v k = λ e is w l. (known_from_shown plan s e.key num (k e is), subst (λ (x : Eviction). IsWritten plan s.log s.steps x.key num body) (same_Some _ e (sym v.awaits.is ∙ is)) (v.written l))
-  shown (RemoveAns i tag done latest num body) v k = λ e is w d. (known_from_shown plan s e.key num (k e is), subst (λ (x : Eviction). IsWritten plan s.log s.steps x.key num body) (same_Some _ e (sym v.awaits.is ∙ is)) (v.written d))
+  shown (PeekAns i tag latest num body) v k = λ e is w l. ((k e is), subst (λ (x : Eviction). IsWritten plan s.log s.steps x.key num body) (same_Some _ e (sym v.awaits.is ∙ is)) (v.written l))
+  shown (RemoveAns i tag done latest num body) v k = λ e is w d. ((k e is), subst (λ (x : Eviction). IsWritten plan s.log s.steps x.key num body) (same_Some _ e (sym v.awaits.is ∙ is)) (v.written d))
   shown _ v k = tt
 
   -- ---- snapshots
 
-  safe : (key : List ℕ) (num : ℕ) → IsAbsorbedOn plan s.log key num → num ≤ s.controller.last.point → IsSafe plan s key num
-  safe key num a b = go ((h.snapshots.covers refl).last key num (by_plan_from_on plan s.log key num a) b)
+  safe : (key : List ℕ) (num : ℕ) → IsAbsorbed plan s.log key num → num ≤ s.controller.last.point → IsSafe plan s key num
+  safe key num a b = go ((h.snapshots.covers refl).last key num a b)
     where
       go : IsAtServer plan s key num ⊎ IsInViews s.controller.last.views key num → IsSafe plan s key num
       go (inl x) = inl x
@@ -227,8 +185,8 @@ module _ (plan : PlanView) (past : Past) (s : State) (valid : IsPlan plan) (h : 
     asked = λ m a. asked m.packet (h.keeps.relies m a);
     written_at_servers = servers_written;
     shown = λ m a. shown m.packet (h.evictions.packets m a) (h.known.packets m a);
-    known_answers = λ at op num body near a. known_from_shown plan s (line_of plan.ops op).key num (h.known.lines at op num body near a);
-    snapshot = λ r a. (known_from_shown plan s r.key r.num (h.known.last r a), last_written r a);
+    known_answers = λ at op num body near a. h.known.lines at op num body near a;
+    snapshot = λ r a. ((h.known.last r a), last_written r a);
     released = λ c key num a b. safe key num a (le_trans b ((h.snapshots.clients c).released refl));
     releases = λ m a. releases m.packet (h.snapshots.packets m a);
     completes = completes;
@@ -269,7 +227,7 @@ module _ (plan : PlanView) (past : Past) (s : State) (valid : IsPlan plan) (h : 
     within = λ t runs i r a. written_counted runs r.key r.num r.body (slot_written i r a);
     drawn = λ t runs. h.counters.counter runs;
     reads = λ t m a. unnumbered_read m.packet (h.keeps.relies m a);
-    cached = λ t runs key num a. swap key num (absorbed_is_cached plan s h.keeps runs key num (was_from_by_plan plan s.log key num a));
+    cached = λ t runs key num a. swap key num (absorbed_is_cached plan s h.keeps runs key num a);
     slots = h.sound.sized.states;
     rounds = λ busy. let r = some_round s.controller.round busy in (h.stops.round r.0 r.1).goes.no_job;
     tops = λ t counter e at op num a. own_counted counter e at op num a;
@@ -323,7 +281,7 @@ module _ (plan : PlanView) (past : Past) (s : State) (valid : IsPlan plan) (h : 
       at place.0 place.1 goes
     where
       at : (i : ℕ) → slice_get s.bag i ≡ Some m → m.to ≡ Controller → IsAtServer plan s key num ⊎ Covers (view_records (completed job).views) key num
-      at i is goes = out (subst (λ (t : State). IsAtServer plan t key num ⊎ IsInSnapshot t key num) happened (event_covers plan s past (Deliver i) h.snapshots snapshots_need able key num (by_plan_from_on plan s.log key num absorbed) there))
+      at i is goes = out (subst (λ (t : State). IsAtServer plan t key num ⊎ IsInSnapshot t key num) happened (event_covers plan s past (Deliver i) h.snapshots snapshots_need able key num absorbed there))
         where
           any : (b : Bool) → (b || true) ≡ true
           any true = refl

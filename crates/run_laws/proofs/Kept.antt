@@ -1,5 +1,6 @@
 -- Slots, admissions and evictions in every state of every run, whatever keepers answer in kind.
-use Rattle.std.proofs.Common.{◌≡◌, ℕ, ◌<◌, Bool, true, false, List, [], ◌∷◌, refl, sym, ◌∙◌, arith}
+use Rattle.record_laws.proofs.SeatsOpen.{opening_sits}
+use Rattle.std.proofs.Common.{◌≡◌, ℕ, true, false, List, [], ◌∷◌, refl, sym, ◌∙◌, arith}
 use Rattle.std.specs.Prelude.{Option, Some, None, is_some}
 use Rattle.far_base.specs.Limits.{IsPlan}
 use Rattle.far_base.specs.PlanView.{PlanView}
@@ -11,7 +12,6 @@ use Rattle.far_model.specs.Replies.{IsRunWith, KeptEvent, run_with, AnswersInKin
 use Rattle.far_model.specs.Rounds.{Round}
 use Rattle.far_model.specs.State.{State, opening}
 use Rattle.flight_laws.proofs.Lists.{get_or-replicate_default}
-use Rattle.record_laws.proofs.LastingRuns.{opening_sits}
 use Rattle.far_invariants.specs.Evictions.{EvictionsAre, anything}
 use Rattle.eviction_laws.proofs.EveryEvent.{event_flies}
 use Rattle.far_invariants.specs.InFlight.{RoundFlies}

@@ -1,19 +1,20 @@
 -- What numbers and slots give to evictions.
-use Rattle.std.proofs.Common.{◌≡◌, ℕ, ◌<◌, true, List, refl, subst}
+use Rattle.far_invariants.specs.Slots.{IsSlotOf, FitsState}
+use Rattle.far_invariants.specs.Numbers.{entry}
+use Rattle.far_invariants.specs.Holds.{Numbers}
+use Rattle.std.proofs.Common.{◌≡◌, ℕ, ◌<◌, true, List, subst}
 use Rattle.std.specs.Prelude.{Some}
 use Rattle.far_base.specs.PlanView.{PlanView}
 use Rattle.far_base.specs.declared.packet.Packet.{Packet}
 use Rattle.far_base.specs.declared.packet.Packet.TheVariants.{Admit, AdmitAck}
 use Rattle.far_base.specs.declared.slot_state.SlotState.TheVariants.{Held}
 use Rattle.far_model.specs.Evictions.{state_at}
-use Rattle.far_invariants.specs.Invariants.{FitsState, IsSlotOf, entry}
 use Rattle.far_model.specs.State.{State}
 use Rattle.far_model.specs.View.{SlotView, slot_at}
 use Rattle.record_laws.proofs.Seats.{owner}
 use Rattle.far_invariants.specs.Evictions.{Content, written_in}
 use Rattle.far_invariants.specs.EvictionNeeds as theirs
 use Rattle.far_invariants.specs.SeatNeeds.{Needs, SeatNeeds}
-use Rattle.run_laws.specs.Numbers.{Numbers}
 use Rattle.far_invariants.specs.Seated.{AdmissionStands, Seated}
 
 -- while the switch runs, a held slot has its key and tag

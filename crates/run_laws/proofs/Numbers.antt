@@ -1,4 +1,5 @@
 -- What logs keep, where counters come from, and what snapshots hold, over every event.
+use Rattle.far_invariants.specs.Numbers.{IsWritten}
 use Rattle.far_invariants.specs.Records.{StartsAreWritten}
 use Rattle.far_invariants.proofs.Noted.{member}
 use Rattle.std.proofs.Common.{◌≡◌, ℕ, suc, ◌+◌, ◌≤◌, ◌⊎◌, inl, inr, Bool, true, false, List, [], ◌∷◌, map, length, get_or, refl, sym, ap, ◌∙◌, subst, arith, le_trans}
@@ -21,7 +22,6 @@ use Rattle.far_base.specs.declared.record.Record.{Record}
 use Rattle.far_model.specs.Clients.{client_takes}
 use Rattle.far_model.specs.Controller.{ControllerState, controller_takes, tick, ready, evict_key, start_snapshot}
 use Rattle.far_model.specs.Events.{Keeping, happens, happens_with, keeping_of, handled, delivers, sends, ticks, recovers, restarts, does_order, recovery_items, next_sent}
-use Rattle.far_invariants.specs.Invariants.{IsWritten}
 use Rattle.far_model.specs.Members.{Among}
 use Rattle.far_model.specs.Parties.{Turn}
 use Rattle.far_invariants.specs.Past.{Past, SnapshotStart, remembers, new_starts, starts_with, starts_by, start_of}

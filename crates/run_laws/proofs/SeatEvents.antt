@@ -1,4 +1,5 @@
 -- Every event of every run keeps what holds of slots and admissions, whatever keepers answer.
+use Rattle.far_invariants.specs.Slots.{FitsState, IsGiven, admission_count}
 use Rattle.std.proofs.Common.{◌≡◌, ℕ, ◌+◌, ◌<◌, inl, inr, Bool, true, false, List, [], ◌∷◌, length, refl, sym, ap, ◌∙◌, subst, arith, eqb-true}
 use Rattle.std.specs.Prelude.{Option, Some, None, ◌&&◌, ◌||◌, not, if◌then◌else◌, is_some, nat_eq, slice_get}
 use Rattle.std.specs.List.{remove, list_any}
@@ -23,7 +24,6 @@ use Rattle.far_model.specs.Controller.{ControllerState, drop_want_if, evict_held
 use Rattle.far_model.specs.Events.{Keeping, can_deliver, can_deliver_some, can_recover, controller_turn, delivers, does_order, handled, is_enabled, is_order_due, is_order_enabled, is_switch, restarts, ticks}
 use Rattle.far_model.specs.Evictions.{Eviction, TRIES, after_removal, first_place, hand_after, has_key, holds_key, is_free, is_held, key_in, shown_item, state_at, tag_in, victim, waits_for}
 use Rattle.far_model.specs.Evictions.Next.{Store as StoreNext, Done, Kept}
-use Rattle.far_invariants.specs.Invariants.{FitsState, IsGiven, admission_count}
 use Rattle.far_model.specs.Members.{Among}
 use Rattle.far_model.specs.Parties.{Turn, idle, messages_from}
 use Rattle.far_model.specs.Pass.{pass}

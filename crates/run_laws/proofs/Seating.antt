@@ -1,5 +1,6 @@
 -- Slots and admissions across events: what is the same as in runs without stops, and steps that change no owner.
-use Rattle.std.proofs.Common.{◌≡◌, ℕ, ◌≤◌, ◌⊎◌, inl, inr, true, false, List, length, refl, sym, ap, ◌∙◌, subst, arith}
+use Rattle.far_invariants.specs.Slots.{FitsState, IsGiven, AdmissionIs, is_admission_of, admits_under, admission_count}
+use Rattle.std.proofs.Common.{◌≡◌, ℕ, ◌≤◌, ◌⊎◌, inl, inr, true, false, length, sym, ap, ◌∙◌, subst, arith}
 use Rattle.std.specs.Prelude.{None}
 use Rattle.std.specs.List.{count_by}
 use Rattle.far_base.specs.PlanView.{PlanView}
@@ -7,7 +8,6 @@ use Rattle.far_base.specs.declared.packet.Message.{Message}
 use Rattle.far_base.specs.declared.packet.Packet.{Packet}
 use Rattle.far_base.specs.declared.packet.Packet.TheVariants.{Admit, AdmitAck}
 use Rattle.far_model.specs.Evictions.{state_at}
-use Rattle.far_invariants.specs.Invariants.{FitsState, IsGiven, AdmissionIs, is_admission_of, admits_under, admission_count}
 use Rattle.far_model.specs.Members.{Among}
 use Rattle.far_model.specs.State.{State}
 use Rattle.far_model.specs.View.{slot_at}
@@ -23,13 +23,6 @@ IsPast present _ = Unit {0}
 -- no admission on its way is of an epoch to come
 abbrev pub ArePast : State → Type 0
 ArePast s = (m : Message) → Among m s.bag → IsPast s.controller.epoch m.packet
-
-past_of : (s : State) (p : Packet) → AdmissionStands s p → IsPast s.controller.epoch p
-past_of s (Admit epoch i key tag) h = h.1
-past_of s _ h = tt
-
-pub are_past : (plan : PlanView) (s : State) → Seated plan s → ArePast s
-are_past plan s h m a = past_of s m.packet (h.admissions.packets m a)
 
 pub seats_of : (plan : PlanView) (s : State) → Seated plan s → s.running ≡ true → s.controller.round ≡ None → Seats plan s
 seats_of plan s h runs outside = record {

@@ -1,4 +1,6 @@
 -- Answers to reads and the item of an eviction were written: every event keeps it.
+use Rattle.far_invariants.specs.Numbers.{slot_if, IsWritten}
+use Rattle.far_invariants.specs.Operations.{Relies, OperationsStand}
 use Rattle.far_invariants.proofs.Noted.{member}
 use Rattle.std.proofs.Common.{◌≡◌, ℕ, ◌+◌, ◌⊎◌, inl, inr, Bool, true, false, List, [], ◌∷◌, ◌++◌, length, refl, sym, ap, ◌∙◌, subst, arith, eqb-true}
 use Rattle.std.specs.Prelude.{Option, Some, None, ◌&&◌, not, if◌then◌else◌, is_some, nat_eq, slice_get}
@@ -26,7 +28,6 @@ use Rattle.far_model.specs.Controller.{ControllerState, acked_state, controller_
 use Rattle.far_model.specs.Events.{Keeping, can_deliver_some, controller_turn, delivers, does_order, handled, happens, is_enabled, is_order_due, keeping_of, next_sent, recovery_items, reply_message, reply_at, reply_to, all_listed, restarts, sends, stops, ticks}
 use Rattle.far_model.specs.Evictions.{Eviction, TRIES, after_removal, first_place, hand_after, has_key, holds_key, is_admitting, is_free, key_in, shown_item, state_at, victim, waits_for}
 use Rattle.far_model.specs.Evictions.Next.{Store as StoreNext, Done, Kept}
-use Rattle.far_invariants.specs.Invariants.{IsWritten, slot_if}
 use Rattle.far_model.specs.Log.{is_read}
 use Rattle.far_model.specs.Members.{Among, Each}
 use Rattle.far_model.specs.Parties.{Turn, idle, messages_from}
@@ -35,7 +36,6 @@ use Rattle.far_model.specs.State.{State, client_at, noted, now}
 use Rattle.far_model.specs.View.{SwitchView, empty_slot, entry_place, held_record, is_taken, server_of, shown_body, slot_at}
 use Rattle.far_model.proofs.Members.{among_append, among_at, among_map_from, among_remove, each_among}
 use Rattle.flight_laws.proofs.Lists.{by_test}
-use Rattle.record_laws.proofs.Keeps.{Keeps, Relies}
 use Rattle.far_invariants.specs.Evictions.{EvictionPacketIs, written_in}
 use Rattle.eviction_laws.proofs.Calming.{wanted_apart}
 use Rattle.eviction_laws.proofs.Steady.{is_steady}
@@ -120,7 +120,7 @@ module _ (plan : PlanView) (s : State) where
   removal_shows : (v : SwitchView) (i tag : ℕ) (done : Bool) → OutShows plan s (removed_answer i tag done (slot_at v i))
   removal_shows v i tag done = by_test (OutShows plan s) (is_under tag (slot_at v i)) (sent_to Controller (RemoveAns i tag done (slot_at v i).latest (slot_at v i).num (shown_body (slot_at v i)))) (sent_to Controller (RemoveAns i tag false false 0 None)) tt tt
 
-  pub pass_shows : Keeps plan s → (p : Packet) → Relies plan s p → PassShows plan s (pass s.switch p)
+  pub pass_shows : OperationsStand plan s → (p : Packet) → Relies plan s p → PassShows plan s (pass s.switch p)
   pass_shows k (GetReq caller op key) r = go (entry_place key s.switch) refl
     where
       go : (o : Option ℕ) → entry_place key s.switch ≡ o → PassShows plan s (read_passes s.switch caller op key o)
@@ -236,7 +236,7 @@ takes_steady config c _ = tt
 
 -- ---- events
 
-module _ (plan : PlanView) (s : State) (k : Keeps plan s) (need : Needs plan s) (h : Shown plan s) where
+module _ (plan : PlanView) (s : State) (k : OperationsStand plan s) (need : Needs plan s) (h : Shown plan s) where
   steady_new : (outs : List Out) → Each IsSteadyOut outs → (m : Message) → Among m (messages_from Controller outs) → AnswerIsWritten plan s m.packet
   steady_new outs steady m a = steady_answer plan s m.packet (outs_steady outs steady m a)
 

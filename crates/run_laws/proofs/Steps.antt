@@ -1,4 +1,7 @@
 -- Every event keeps all invariants.
+use Rattle.far_invariants.specs.Flights.{IsInFlight}
+use Rattle.far_invariants.specs.Holds.{Holds, Numbers}
+use Rattle.record_laws.proofs.SeatsOpen.{opening_sits}
 use Rattle.std.proofs.Common.{◌≡◌, true, List, [], ◌∷◌, inl, refl}
 use Rattle.far_base.specs.Limits.{IsPlan}
 use Rattle.far_base.specs.PlanView.{PlanView}
@@ -7,8 +10,7 @@ use Rattle.far_model.specs.Events.{happens, is_enabled, keeping_of}
 use Rattle.far_model.specs.Runs.{IsRun, run}
 use Rattle.far_model.specs.State.{State, opening}
 use Rattle.far_invariants.specs.Past.{Past, no_past, past_from, past_of, remembers}
-use Rattle.far_invariants.specs.Recoveries.{recovered_last}
-use Rattle.flight_laws.proofs.Handling.{IsInFlight, flight_opens, flight_step}
+use Rattle.flight_laws.proofs.Handling.{flight_opens, flight_step}
 use Rattle.flight_laws.proofs.SnapEvents.{event_stands, keepers_answer}
 use Rattle.flight_laws.proofs.SnapRuns.{opening_stands}
 use Rattle.flight_laws.proofs.SnapServingEvents.{event_flies_with, opening_flies}
@@ -22,16 +24,14 @@ use Rattle.eviction_laws.proofs.KnownRuns.{opening_knows}
 use Rattle.eviction_laws.proofs.DrawnRuns.{opening_draws}
 use Rattle.recovery_laws.proofs.Events.{every_event}
 use Rattle.recovery_laws.proofs.Runs.{stops_open}
-use Rattle.record_laws.proofs.LastingRuns.{opening_sits}
 use Rattle.record_laws.proofs.Openings.{opening_keeps}
 use Rattle.far_invariants.specs.Evictions.{written_in}
 use Rattle.far_invariants.specs.EvictionNeeds.{Needs as EvictionNeeds}
 use Rattle.far_invariants.specs.SnapshotNeeds.{Needs as SnapshotNeeds}
-use Rattle.run_laws.specs.Numbers.{Numbers}
 use Rattle.run_laws.proofs.Counters.{counters_stay}
 use Rattle.run_laws.proofs.Emptied.{stays_empty}
 use Rattle.run_laws.proofs.Events.{event_numbers}
-use Rattle.run_laws.proofs.Holding.{Holds, evictions_need, keys_need, numbers, round_need, seats_need, servers_written, slot_written, snapshots_needed, stops_need}
+use Rattle.run_laws.proofs.Holding.{evictions_need, keys_need, numbers, round_need, seats_need, servers_written, slot_written, snapshots_needed, stops_need}
 use Rattle.run_laws.proofs.Numbers.{starts_stay}
 use Rattle.run_laws.proofs.Seating.{seated_of}
 use Rattle.run_laws.proofs.ShownEvents.{event_shown}

@@ -1,4 +1,8 @@
 -- A stop, the beginning of a recovery, and a restart: what numbers and slots are afterwards.
+use Rattle.far_invariants.specs.Slots.{FitsState, IsGiven, is_admission_of, admits_under, admission_count}
+use Rattle.far_invariants.specs.Numbers.{ExposedAtMost, slot_if, entry, reach}
+use Rattle.far_invariants.specs.Covers.{look}
+use Rattle.far_invariants.specs.Operations.{LineStands, IsDrawn, IsTagged, Relies, OperationsStand}
 use Rattle.far_invariants.proofs.Noted.{IsNote, log_cases}
 use Rattle.std.proofs.Common.{◌≡◌, ℕ, zero, suc, ◌+◌, ◌≤◌, ◌⊎◌, inl, inr, Bool, true, false, List, [], ◌∷◌, ◌++◌, length, replicate, refl, sym, ap, ◌∙◌, subst, arith, ne_eqb}
 use Rattle.std.specs.Prelude.{Some, None, ◌&&◌, nat_eq}
@@ -21,14 +25,12 @@ use Rattle.far_model.specs.Evictions.{state_at}
 use Rattle.far_invariants.specs.Flights.{IsFrom, IsRouted}
 use Rattle.far_model.specs.Parties.{Turn, messages_from}
 use Rattle.far_base.specs.declared.plan.Config.{Config}
-use Rattle.far_invariants.specs.Invariants.{FitsState, IsGiven, look, entry, slot_if, reach, is_admission_of, admits_under, admission_count, ExposedAtMost}
 use Rattle.far_model.specs.Members.{Among, Each}
 use Rattle.far_model.specs.State.{State, line_at, now}
 use Rattle.far_model.specs.View.{SlotView, SwitchView, slot_at, empty_slot, bound_place, entry_if, opening_view}
 use Rattle.far_model.proofs.Members.{among_append, among_map_from, each_among}
 use Rattle.record_laws.proofs.Controls.{IsControlNote, each_to, note_off}
 use Rattle.record_laws.proofs.Frame.{NotOn, off_shows_each, shown_lasts}
-use Rattle.record_laws.proofs.Keeps.{IsDrawn, LineStands, IsTagged, Relies, Keeps}
 use Rattle.record_laws.proofs.Seats.{admits_no_tag, count_append, count_none}
 use Rattle.eviction_laws.proofs.Rules.{Rules, SlotGoes, rules_keep}
 use Rattle.eviction_laws.proofs.Steady.{is_steady, AreSteady, steady_none, turn_keeps}
@@ -41,10 +43,10 @@ use Rattle.run_laws.proofs.Seating.{admission_free}
 abbrev pub recounted : State → Bool → ℕ → State
 recounted t running counter = record t { running = running; switch = record t.switch { counter = counter } }
 
-pub recount_keeps : (plan : PlanView) (t : State) (running : Bool) (counter : ℕ) → Keeps plan t
+pub recount_keeps : (plan : PlanView) (t : State) (running : Bool) (counter : ℕ) → OperationsStand plan t
     → (running ≡ true → (at op num : ℕ) → Among (line_at at (Numbered op num)) t.log → num ≤ counter)
     → (running ≡ true → (key : List ℕ) → ExposedAtMost plan t.log key (reach plan t key))
-    → Keeps plan (recounted t running counter)
+    → OperationsStand plan (recounted t running counter)
 recount_keeps plan t running counter k counts covers = record {
   some_server = k.some_server;
   servers = k.servers;
@@ -148,7 +150,7 @@ module _ (plan : PlanView) (s : State) (done : ℕ) where
   abbrev counting : State
   counting = record (stops plan s) { done = done; switch = opening_view plan.config 0 s.switch.counter }
 
-  pub stop_keeps : Keeps plan s → Keeps plan stopped
+  pub stop_keeps : OperationsStand plan s → OperationsStand plan stopped
   stop_keeps k = recount_keeps plan counting false 0 (rules_keep plan (Stopped ∷ []) s counting k rules (λ key. goes key)) (λ runs. absurd cc) (λ runs. absurd cc)
     where
       rules : Rules plan (Stopped ∷ []) s counting
@@ -206,7 +208,7 @@ module _ (plan : PlanView) (s : State) (k : Keeping) (counter : ℕ) where
   controls : Each IsControlNote (Recovered counter (length k.records) ∷ recovery_items k.records)
   controls = (tt, items_control k.records)
 
-  pub restart_keeps : Keeps plan s → IsRestorable plan s counter → Keeps plan restart
+  pub restart_keeps : OperationsStand plan s → IsRestorable plan s counter → OperationsStand plan restart
   restart_keeps keeps found = recount_keeps plan waking true counter (rules_keep plan notes s waking keeps rules (λ key. goes key)) (λ runs at op num a. own at op num (log_cases s waking notes refl _ a)) (λ runs key. shown key)
     where
       rules : Rules plan notes s waking
@@ -235,7 +237,7 @@ module _ (plan : PlanView) (s : State) (k : Keeping) (counter : ℕ) where
 
       shown : (key : List ℕ) → ExposedAtMost plan waking.log key (reach plan waking key)
       shown key =
-          let none : reach plan waking key ≡ (look plan s key).num = ap (Rattle.far_invariants.specs.Invariants.reach_by (look plan s key).num) (bare_entry plan (s.controller.epoch + 1) s.switch.counter key) in
+          let none : reach plan waking key ≡ (look plan s key).num = ap (Rattle.far_invariants.specs.Numbers.reach_by (look plan s key).num) (bare_entry plan (s.controller.epoch + 1) s.switch.counter key) in
           subst (ExposedAtMost plan waking.log key) (sym none) (shown_lasts s waking notes refl plan key (look plan s key).num (found.shown key) (off_shows_each plan key (look plan s key).num notes (each_to IsControlNote (NotOn plan key) notes (note_off plan key) controls)))
 
   module _ (free : (i : ℕ) → state_at s.controller.slots i ≡ Free) (h : Seated plan s) where
@@ -302,7 +304,7 @@ module _ (plan : PlanView) (s : State) where
   sends_steady = outs_steady recovering.out (each_append IsSteadyOut (to_clients 0 plan.config.clients (Ask s.controller.next_round)) (stores_of plan.config s.controller.next_job (snapshot_stores s.controller))
       (asks_steady 0 plan.config.clients s.controller.next_round) (stores_steady plan.config s.controller.next_job (snapshot_stores s.controller)))
 
-  pub recover_keeps : Keeps plan s → Keeps plan recovered
+  pub recover_keeps : OperationsStand plan s → OperationsStand plan recovered
   recover_keeps k = turn_keeps plan s s.bag recovering s.done k (λ m a. a) sends_steady tt (omega arith)
 
   module _ (off : s.running ≡ false) (quiet : (m : Message) → Among m s.bag → is_switch m.from ≡ false) (routed : IsRouted plan s) (h : Seated plan s) where

@@ -1,4 +1,5 @@
 -- Turns of the controller that change no slot's state: snapshots, wants, stores, and all packets of a round.
+use Rattle.far_invariants.specs.Operations.{OperationsStand}
 use Rattle.std.proofs.Common.{◌≡◌, ℕ, zero, suc, ◌+◌, ◌⊎◌, inl, inr, Bool, true, false, List, [], ◌∷◌, ◌++◌, length, refl, sym, ◌∙◌, arith}
 use Rattle.std.specs.Prelude.{Option, Some, None, ◌&&◌, not, if◌then◌else◌, nat_eq, nat_le, nat_lt, slice_set, slice_index_or, is_some}
 use Rattle.far_base.specs.PlanView.{PlanView}
@@ -22,7 +23,6 @@ use Rattle.far_model.proofs.Members.{among_append}
 use Rattle.flight_laws.proofs.Lists.{by_test}
 use Rattle.record_laws.proofs.Calm.{IsRest, is_plain}
 use Rattle.record_laws.proofs.Controls.{IsControlNote, each_to}
-use Rattle.record_laws.proofs.Keeps.{Keeps}
 use Rattle.record_laws.proofs.Seats.{count_append, count_none, is_admission_packet, SameBag, unchanged_slots}
 use Rattle.record_laws.proofs.Snapshots.{IsCalmTurn, IsPlainOut}
 use Rattle.eviction_laws.proofs.Steady.{is_steady, steady_none, turn_keeps}
@@ -149,5 +149,5 @@ module _ (plan : PlanView) (s : State) (rest : List Message) (turn : Turn Contro
     bag = still_bag;
   })
 
-  pub still_keeps : Keeps plan s → Keeps plan after
+  pub still_keeps : OperationsStand plan s → OperationsStand plan after
   still_keeps k = turn_keeps plan s rest turn done k r.among (outs_steady turn.out still.steady) still.notes_are (let e = still.tags in omega (arith, e))

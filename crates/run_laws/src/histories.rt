@@ -1,7 +1,8 @@
 //! The history of every run.
 
+ghost use Rattle.far_invariants.specs.Logs.{AnswersAreCurrent, LogIsSound};
+ghost use Rattle.far_invariants.specs.Numbers.{NumbersAreSound};
 ghost use Rattle.std.specs.Prelude.{◌≡◌, ℕ, ◌≤◌, List, Some};
-ghost use Rattle.far_base.specs.PlanView.{PlanView};
 ghost use Rattle.far_base.specs.declared.log.Placed.{Placed};
 ghost use Rattle.far_model.specs.Coherent.{IsCoherent};
 ghost use Rattle.far_model.specs.History.{HasOneLegalHistory, IsHistory, key_of};
@@ -9,15 +10,18 @@ ghost use Rattle.far_model.specs.Log.{At, exposed, numbering};
 ghost use Rattle.far_model.specs.Members.{Among};
 ghost use Rattle.far_invariants.specs.Always.{Always};
 ghost use Rattle.far_invariants.specs.ClientOrder.{KeepsClientOrder};
-ghost use Rattle.far_invariants.specs.Invariants.{AnswersAreCurrent, LogIsSound, NumbersAreSound};
 
-/// Across all stops the log is coherent; so it has a history, which is legal and keeps real-time order, each client's own
-/// order with it, and it has no other. A write whose number an answer has shown stands in the history, also where it is not answered yet.
+/// Across all stops the log is coherent; so it has a history, which is legal and keeps real-time order, each client's
+/// own order with it, and it has no other. A write whose number an answer has shown stands in the history, also where
+/// it is not answered yet.
 pub fn runs_have_one_history()
     ensures coherent { Always (λ plan events s. IsCoherent s.log) }
     ensures history { Always (λ plan events s. HasOneLegalHistory s.log) }
-    ensures by_client { Always (λ plan events s. (history : List Placed) → IsHistory s.log history → KeepsClientOrder s.log history) }
-    ensures exposed { Always (λ plan events s. (history : List Placed) (op moment : ℕ) (own : At ℕ) → IsHistory s.log history → numbering s.log op ≡ Some own → own.what ≤ exposed s.log (key_of s.log op) moment → (place : Placed) × (place.op ≡ op) × Among place history) }
+    ensures by_client { Always (λ plan events s. (history : List Placed) → IsHistory s.log history
+        → KeepsClientOrder s.log history) }
+    ensures exposed { Always (λ plan events s. (history : List Placed) (op moment : ℕ) (own : At ℕ)
+        → IsHistory s.log history → numbering s.log op ≡ Some own → own.what ≤ exposed s.log (key_of s.log op) moment
+        → (place : Placed) × (place.op ≡ op) × Among place history) }
 {
     history_laws::coherent_log();
     history_laws::all_placed();

@@ -1,10 +1,11 @@
 //! What holds in every state of every run of every valid plan, with all orders, evictions, snapshots, stops and
-//! recoveries: functions with no code, whose contracts are the theorems of the cache. What holds whatever keepers answer
-//! is in the laws of flights; a run is one of those by `flight_laws::runs_are_kept_runs`.
+//! recoveries: functions with no code, whose contracts are the theorems of the cache. What holds whatever keepers
+//! answer is in the laws of flights; a run is one of those by `flight_laws::runs_are_kept_runs`.
 #![tactic(auto)]
 
 mod evictions;
 mod histories;
+mod invariants;
 mod records;
 mod recoveries;
 mod slots;
@@ -12,6 +13,7 @@ mod snapshots;
 
 pub use evictions::evictions_are_safe;
 pub use histories::{answers_are_current, runs_have_one_history};
+pub use invariants::runs_hold;
 pub use records::records_are_written;
 pub use recoveries::{absorbed_is_kept, releases_are_safe, restarts_restore, rounds_are_served};
 pub use slots::{slots_are_owned, slots_stand_with_any_keeper};

@@ -1,13 +1,14 @@
 //! Nothing unwritten appears anywhere.
 
-ghost use Rattle.std.specs.Prelude.{◌≡◌, List};
+ghost use Rattle.std.specs.Prelude.{◌≡◌};
 ghost use Rattle.far_base.specs.declared.record.Record.{Record};
 ghost use Rattle.far_invariants.specs.Always.{Always};
 ghost use Rattle.far_invariants.specs.Records.{IsRecord, RecordsEverywhere};
 
-/// Every record that a state holds in a slot, a message, at a server, in a snapshot or preserved by a client is that of a
-/// write, and records of one key and number have one body.
+/// Every record that a state holds in a slot, a message, at a server, in a snapshot or preserved by a client is that
+/// of a write, and records of one key and number have one body.
 pub fn records_are_written()
     ensures everywhere { Always (λ plan events s. RecordsEverywhere plan s) }
-    ensures agree { Always (λ plan events s. (r q : Record) → IsRecord plan s r → IsRecord plan s q → r.key ≡ q.key → r.num ≡ q.num → r.body ≡ q.body) }
+    ensures agree { Always (λ plan events s. (r q : Record) → IsRecord plan s r → IsRecord plan s q
+        → r.key ≡ q.key → r.num ≡ q.num → r.body ≡ q.body) }
 {}

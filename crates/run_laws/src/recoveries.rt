@@ -1,21 +1,17 @@
 //! What outlives a stop, and what a recovery restores.
 
-ghost use Rattle.std.specs.Prelude.{◌≡◌, ℕ, ◌<◌, ◌≤◌, true, List, Some, slice_get};
+ghost use Rattle.std.specs.Prelude.{◌≡◌, ℕ, ◌<◌, true, List, Some, slice_get};
 ghost use Rattle.far_base.specs.declared.event.Event.{Event};
 ghost use Rattle.far_base.specs.declared.event.Event.TheVariants.{Deliver, Restart};
 ghost use Rattle.far_base.specs.declared.packet.Message.{Message};
 ghost use Rattle.far_base.specs.declared.packet.Packet.TheVariants.{Release};
 ghost use Rattle.far_base.specs.declared.party.Party.TheVariants.{Client};
 ghost use Rattle.far_base.specs.declared.record.Record.{Record};
-ghost use Rattle.far_model.specs.Events.{all_listed, happens, is_enabled};
-ghost use Rattle.far_model.specs.Kept.{IsRecoveredMap};
-ghost use Rattle.far_model.specs.Log.{exposed};
+ghost use Rattle.far_model.specs.Events.{happens, is_enabled};
 ghost use Rattle.far_model.specs.Members.{Among};
 ghost use Rattle.far_model.specs.Rounds.{Round};
-ghost use Rattle.far_model.specs.Runs.{run};
-ghost use Rattle.far_model.specs.State.{client_at, opening};
+ghost use Rattle.far_model.specs.State.{client_at};
 ghost use Rattle.far_invariants.specs.Always.{Always};
-ghost use Rattle.far_invariants.specs.Invariants.{look};
 ghost use Rattle.far_invariants.specs.Past.{past_of};
 ghost use Rattle.far_invariants.specs.Recoveries.{BlocksAreRestarts, RecoversAfter, recovered_last};
 ghost use Rattle.far_invariants.specs.Restarts.{IsRestored};
@@ -29,14 +25,15 @@ pub fn absorbed_is_kept()
     ensures stops { Always (λ plan events s. Stops plan (recovered_last (past_of plan events)) s) }
 {}
 
-/// At each restart the servers have, per key, the newest record of the kept list of the state in which the recovery began,
-/// no older than any answer before, and the new counter is at least every number of a write. So it is for each block of a
-/// restart in the log.
+/// At each restart the servers have, per key, the newest record of the kept list of the state in which the recovery
+/// began, no older than any answer before, and the new counter is at least every number of a write. So it is for each
+/// block of a restart in the log.
 pub fn restarts_restore()
-    ensures restored { Always (λ plan events s. is_enabled plan s Restart ≡ true → IsRestored plan (recovered_last (past_of plan events)) s (happens plan s Restart)) }
+    ensures restored { Always (λ plan events s. is_enabled plan s Restart ≡ true
+        → IsRestored plan (recovered_last (past_of plan events)) s (happens plan s Restart)) }
     ensures blocks { Always (λ plan events s. BlocksAreRestarts plan events s) }
-    ensures maps { Always (λ plan events s. (before : List Event) → is_enabled plan s Restart ≡ true → RecoversAfter events before → IsRecoveredMap (run plan (opening plan) before) (all_listed s.servers)) }
-    ensures no_older { Always (λ plan events s. is_enabled plan s Restart ≡ true → (key : List ℕ) (moment : ℕ) → exposed s.log key moment ≤ (look plan s key).num) }
+    ensures begun { Always (λ plan events s. is_enabled plan s Restart ≡ true → (before : List Event)
+        × RecoversAfter events before) }
 {}
 
 /// A round is under way only while the switch is stopped, and all that it waits for is on its way.
@@ -46,6 +43,9 @@ pub fn rounds_are_served()
 
 /// After a release was delivered its client preserves nothing up to the point.
 pub fn releases_are_safe()
-    ensures dropped { Always (λ plan events s. (i client point : ℕ) (m : Message) → slice_get s.bag i ≡ Some m → m.packet ≡ Release point → m.to ≡ Client client → (item : Record) → Among item (client_at (happens plan s (Deliver i)) client).preserved → point < item.num) }
-    ensures above { Always (λ plan events s. (client : ℕ) (item : Record) → Among item (client_at s client).preserved → (client_at s client).released < item.num) }
+    ensures dropped { Always (λ plan events s. (i client point : ℕ) (m : Message) → slice_get s.bag i ≡ Some m
+        → m.packet ≡ Release point → m.to ≡ Client client → (item : Record)
+        → Among item (client_at (happens plan s (Deliver i)) client).preserved → point < item.num) }
+    ensures above { Always (λ plan events s. (client : ℕ) (item : Record) → Among item (client_at s client).preserved
+        → (client_at s client).released < item.num) }
 {}

@@ -11,12 +11,15 @@ ghost use Rattle.far_invariants.specs.SnapshotFlights.{SnapshotsInFlight};
 ghost use Rattle.far_invariants.specs.SnapshotLaws.{CompletedIsStart, LogsSnapshots, MarksMatch, PartsAreStarts, ReleasedIsCovered, StartCoversPoint};
 ghost use Rattle.far_invariants.specs.Snapshots.{SnapshotsStand};
 
-/// A completed snapshot is what all slots held at the one moment at which its start came, whatever packets, evictions and
-/// admissions came between; and what a step logs of snapshots is the one that it completes.
+/// A completed snapshot is what all slots held at the one moment at which its start came, whatever packets, evictions
+/// and admissions came between; and what a step logs of snapshots is the one that it completes.
 pub fn snapshots_are_cuts()
     ensures completed { Always (λ plan events s. CompletedIsStart plan events s) }
-    ensures one { Always (λ plan events s. (id : ℕ) (views other : List (Option Record)) (point own : ℕ) → IsSnapshotAt plan events id views point → IsSnapshotAt plan events id other own → (views ≡ other) × (point ≡ own)) }
-    ensures logged { Always (λ plan events s. (e : Event) → is_enabled plan s e ≡ true → LogsSnapshots s (happens plan s e)) }
+    ensures one { Always (λ plan events s. (id : ℕ) (views other : List (Option Record)) (point own : ℕ)
+        → IsSnapshotAt plan events id views point → IsSnapshotAt plan events id other own → (views ≡ other)
+        × (point ≡ own)) }
+    ensures logged { Always (λ plan events s. (e : Event) → is_enabled plan s e ≡ true
+        → LogsSnapshots s (happens plan s e)) }
 {}
 
 /// While a snapshot is gathered: parts are what the slots held at its start, marks are those of the last completed one,
@@ -29,7 +32,8 @@ pub fn snapshots_are_gathered()
     ensures released { Always (λ plan events s. ReleasedIsCovered plan s (past_of plan events).starts) }
 {}
 
-/// All that a snapshot waits for is on its way: of each slot whose part was taken exactly one part is held or on its way.
+/// All that a snapshot waits for is on its way: of each slot whose part was taken exactly one part is held or on its
+/// way.
 pub fn snapshots_are_served()
     ensures { Always (λ plan events s. SnapshotsInFlight plan s (past_of plan events).starts) }
 {}

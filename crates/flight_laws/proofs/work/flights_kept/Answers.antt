@@ -1,5 +1,5 @@
 use Rattle.far_model.specs.State.{opening}
-use Rattle.flight_laws.proofs.Steps.{from_sound, sound_opens, sound_run, sound_step, to_sound}
+use Rattle.flight_laws.proofs.Steps.{from_sound, sound_opens, sound_step, to_sound}
 use Rattle.flight_laws.proofs.Stated.{admissions_stated}
 use Rattle.flight_laws.proofs.work.flights_kept.Goals as goal
 
@@ -11,6 +11,3 @@ returns-clause-opens c plan = from_sound plan (opening plan) (sound_opens plan)
 
 pub returns-clause-step : goal.returns-clause-step
 returns-clause-step c plan k s e valid h ans able = from_sound plan _ (sound_step plan k s e valid (to_sound plan s h) ans able)
-
-pub returns-clause-runs : goal.returns-clause-runs
-returns-clause-runs c plan events valid r = from_sound plan _ (sound_run plan 0 (opening plan) events valid (sound_opens plan) r)

@@ -1,5 +1,4 @@
-use Rattle.far_model.specs.State.{opening}
-use Rattle.flight_laws.proofs.Drawing.{opens_in, run_in, step_in}
+use Rattle.flight_laws.proofs.Drawing.{opens_in, step_in}
 use Rattle.flight_laws.proofs.work.numbers_drawn.Goals as goal
 
 pub returns-clause-opens : goal.returns-clause-opens
@@ -7,6 +6,3 @@ returns-clause-opens c plan = opens_in plan
 
 pub returns-clause-step : goal.returns-clause-step
 returns-clause-step c plan k ceiling s e h ans = step_in plan k ceiling s e h ans
-
-pub returns-clause-runs : goal.returns-clause-runs
-returns-clause-runs c plan events r = run_in plan 0 (opening plan) events (opens_in plan) r

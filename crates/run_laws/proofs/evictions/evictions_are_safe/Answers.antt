@@ -1,4 +1,6 @@
-use Rattle.eviction_laws.proofs.Meaning.{removal_is_stored, absorbed_is_cached}
+use Rattle.far_invariants.specs.Past.{past_of}
+use Rattle.run_laws.proofs.Whole.{removals}
+use Rattle.eviction_laws.proofs.Meaning.{absorbed_is_cached}
 use Rattle.far_model.specs.Runs.{run}
 use Rattle.far_model.specs.State.{opening}
 use Rattle.run_laws.proofs.Steps.{holds}
@@ -8,7 +10,7 @@ pub returns-clause-sound : goal.returns-clause-sound
 returns-clause-sound c plan events valid r = (holds plan events valid r).evictions
 
 pub returns-clause-removals : goal.returns-clause-removals
-returns-clause-removals c plan events valid r = λ o. removal_is_stored plan (run plan (opening plan) events) o (holds plan events valid r).evictions
+returns-clause-removals c plan events valid r = removals plan (past_of plan events) (run plan (opening plan) events) valid (holds plan events valid r)
 
 pub returns-clause-cached : goal.returns-clause-cached
 returns-clause-cached c plan events valid r = absorbed_is_cached plan (run plan (opening plan) events) (holds plan events valid r).keeps

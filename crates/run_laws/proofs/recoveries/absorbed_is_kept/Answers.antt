@@ -1,5 +1,3 @@
-use Rattle.far_model.specs.Runs.{run}
-use Rattle.far_model.specs.State.{opening}
 use Rattle.run_laws.proofs.Steps.{holds}
 use Rattle.run_laws.proofs.recoveries.absorbed_is_kept.Goals as goal
 

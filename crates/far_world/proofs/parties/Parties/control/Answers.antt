@@ -18,9 +18,9 @@ post-requires-clause-bag_room g c =
     let small : IsSmall c.self.inside.controller.config (task_turn c.self.inside.controller.config c.self.inside.controller.state c.args.task.now) =
     rw c.self.invariant.config (small_task c.self.inside.plan.config c.self.inside.controller.state c.args.task.now fits) in
     let sent : length c.do_task.new.turn.out.items ≤ c.self.inside.controller.config.clients + c.self.inside.controller.config.servers + c.self.inside.controller.config.slots + 1 =
-    counted c.in_ok-turn.turn.out.items c.do_task.new.turn.out.items (task_turn c.self.inside.controller.config c.self.inside.controller.state c.args.task.now).out (c.self.inside.controller.config.clients + c.self.inside.controller.config.servers + c.self.inside.controller.config.slots + 1) c.in_ok-turn.ensures.turn c.in_ok-do_task.ensures.out small.outs in
+    counted c.make_room.new.turn.out.items c.do_task.new.turn.out.items (task_turn c.self.inside.controller.config c.self.inside.controller.state c.args.task.now).out (c.self.inside.controller.config.clients + c.self.inside.controller.config.servers + c.self.inside.controller.config.slots + 1) c.in_ok-make_room.ensures.turn c.in_ok-do_task.ensures.out small.outs in
     let same : c.config_of-config.result ≡ c.self.inside.controller.config = c.config_of-config.ensures ∙ sym c.self.invariant.config in
-    let room = rw same at c.in_ok-turn.ensures.bag_room in
+    let room = rw same at c.in_ok-make_room.ensures.bag_room in
     omega (arith, sent, room, c.do_task.new.turn.out.ok.0)
 
 pub post-requires-clause-few : goal.post-requires-clause-few
@@ -29,7 +29,7 @@ post-requires-clause-few g c =
     let small : IsSmall c.self.inside.controller.config (task_turn c.self.inside.controller.config c.self.inside.controller.state c.args.task.now) =
     rw c.self.invariant.config (small_task c.self.inside.plan.config c.self.inside.controller.state c.args.task.now fits) in
     let sent : length c.do_task.new.turn.out.items ≤ c.self.inside.controller.config.clients + c.self.inside.controller.config.servers + c.self.inside.controller.config.slots + 1 =
-    counted c.in_ok-turn.turn.out.items c.do_task.new.turn.out.items (task_turn c.self.inside.controller.config c.self.inside.controller.state c.args.task.now).out (c.self.inside.controller.config.clients + c.self.inside.controller.config.servers + c.self.inside.controller.config.slots + 1) c.in_ok-turn.ensures.turn c.in_ok-do_task.ensures.out small.outs in
+    counted c.make_room.new.turn.out.items c.do_task.new.turn.out.items (task_turn c.self.inside.controller.config c.self.inside.controller.state c.args.task.now).out (c.self.inside.controller.config.clients + c.self.inside.controller.config.servers + c.self.inside.controller.config.slots + 1) c.in_ok-make_room.ensures.turn c.in_ok-do_task.ensures.out small.outs in
     let same : c.config_of-config.result ≡ c.self.inside.controller.config = c.config_of-config.ensures ∙ sym c.self.invariant.config in
     let bag = rw (← c.self.view_is) at c.requires.few in
     let valid = rw (← c.self.view_is) at c.requires.valid in
@@ -44,7 +44,7 @@ post-requires-clause-log_room g c =
     let small : IsSmall c.self.inside.controller.config (task_turn c.self.inside.controller.config c.self.inside.controller.state c.args.task.now) =
     rw c.self.invariant.config (small_task c.self.inside.plan.config c.self.inside.controller.state c.args.task.now fits) in
     let noted : length c.do_task.new.turn.notes.items ≤ c.self.inside.controller.config.slots + 1 =
-    counted c.in_ok-turn.turn.notes.items c.do_task.new.turn.notes.items (task_turn c.self.inside.controller.config c.self.inside.controller.state c.args.task.now).notes (c.self.inside.controller.config.slots + 1) c.in_ok-turn.ensures.turn_notes c.in_ok-do_task.ensures.notes small.noted in
+    counted c.make_room.new.turn.notes.items c.do_task.new.turn.notes.items (task_turn c.self.inside.controller.config c.self.inside.controller.state c.args.task.now).notes (c.self.inside.controller.config.slots + 1) c.in_ok-make_room.ensures.turn_notes c.in_ok-do_task.ensures.notes small.noted in
     let same : c.config_of-config.result ≡ c.self.inside.controller.config = c.config_of-config.ensures ∙ sym c.self.invariant.config in
-    let room = rw same at c.in_ok-turn.ensures.log_room in
+    let room = rw same at c.in_ok-make_room.ensures.log_room in
     omega (arith, noted, room, c.do_task.new.turn.notes.ok.0)

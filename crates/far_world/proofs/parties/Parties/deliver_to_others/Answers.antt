@@ -1,8 +1,7 @@
-use Rattle.std.proofs.Common.{◌≡◌, ◌<◌, length, refl, sym, ap, ◌∙◌, subst}
+use Rattle.std.proofs.Common.{◌<◌, length, sym, ap, ◌∙◌, subst}
 use Rattle.std.specs.List.{remove}
 use Rattle.far_base.specs.declared.packet.Message.{Message}
 use Rattle.far_model.proofs.Members.{among_at}
-use Rattle.far_model.specs.Events.{handled}
 use Rattle.far_model.specs.State.{State}
 use Rattle.far_world.proofs.Delivering.{still_there, taken_out}
 use Rattle.far_world.specs.Standing.{unasked}

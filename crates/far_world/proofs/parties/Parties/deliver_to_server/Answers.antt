@@ -1,11 +1,11 @@
-use Rattle.std.proofs.Common.{◌≡◌, [], ◌<◌, length, refl, sym, ap, ◌∙◌, subst}
+use Rattle.std.proofs.Common.{[], ◌<◌, length, sym, ap, ◌∙◌, subst}
 use Rattle.std.specs.List.{remove}
-use Rattle.std.specs.Prelude.{None, Some}
+use Rattle.std.specs.Prelude.{Some}
 use Rattle.far_base.specs.declared.packet.Message.{Message}
 use Rattle.far_base.specs.declared.party.Party.TheVariants.{Server}
 use Rattle.far_model.proofs.Members.{among_at}
 use Rattle.far_model.specs.State.{State}
-use Rattle.far_world.proofs.Delivering.{for_server, place_within, server_after, still_there}
+use Rattle.far_world.proofs.Delivering.{for_server, server_after, still_there}
 use Rattle.far_world.specs.Scene.{Scene}
 use Rattle.far_world.proofs.parties.Parties.deliver_to_server.Goals as goal
 

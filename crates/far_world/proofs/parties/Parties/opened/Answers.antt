@@ -1,4 +1,4 @@
-use Rattle.std.proofs.Common.{refl, ◌∙◌}
+use Rattle.std.proofs.Common.{refl}
 use Rattle.far_world.proofs.Opened.{opening_seats_are, opens}
 use Rattle.far_world.specs.Scene.{keeper_of}
 use Rattle.far_world.proofs.parties.Parties.opened.Goals as goal

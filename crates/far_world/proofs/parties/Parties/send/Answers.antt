@@ -28,7 +28,7 @@ returns-clause-ok g c =
     subst (λ (self : Scene). scene_of c.self.inside.plan (g.S.Switch.seen c.self.inside.switch) c.self.inside.running (slice_set c.self.inside.clients.items c.args.number c.send_next.new.self) c.self.inside.controller c.post.new.bag.messages c.self.inside.passes c.self.inside.done c.post.new.log
     (keeper_of (g.K.Keeper.records c.self.inside.keeper) (g.K.Keeper.server_count c.self.inside.keeper) (g.K.Keeper.ceiling c.self.inside.keeper) (g.K.Keeper.fault_count c.self.inside.keeper)) ≡ record self { state = sends self.plan self.state c.args.number }) c.self.view_is
     (seat_goes c.self.inside.plan (g.S.Switch.seen c.self.inside.switch) c.self.inside.running c.self.inside.clients.items c.self.inside.controller c.self.inside.bag.messages c.self.inside.passes c.self.inside.done c.self.inside.log (keeper_of (g.K.Keeper.records c.self.inside.keeper) (g.K.Keeper.server_count c.self.inside.keeper) (g.K.Keeper.ceiling c.self.inside.keeper) (g.K.Keeper.fault_count c.self.inside.keeper))
-    c.args.number c.index_mut-seat.result.now c.send_next.new.self c.in_ok-turn.turn c.send_next.new.turn c.make_room.new.bag.messages c.post.new.bag.messages c.make_room.new.log c.post.new.log
+    c.args.number c.index_mut-seat.result.now c.send_next.new.self c.make_room.new.turn c.send_next.new.turn c.make_room.new.bag.messages c.post.new.bag.messages c.make_room.new.log c.post.new.log
     (λ (n : ℕ) (s : ClientState). next_sent c.self.inside.plan.ops n s s.left) c.index_mut-seat.ensures.value less c.self.invariant.seated
-    (subst (λ (ops : List OpLine). TakesTurn ops c.index_mut-seat.result.now c.in_ok-turn.turn (next_sent ops c.index_mut-seat.result.now.number c.index_mut-seat.result.now.state c.index_mut-seat.result.now.state.left) c.send_next.new.self c.send_next.new.turn) c.ops_of-ops.ensures c.in_ok-send_next.ensures.ok) c.in_ok-turn.ensures.turn c.in_ok-turn.ensures.turn_notes
+    (subst (λ (ops : List OpLine). TakesTurn ops c.index_mut-seat.result.now c.make_room.new.turn (next_sent ops c.index_mut-seat.result.now.number c.index_mut-seat.result.now.state c.index_mut-seat.result.now.state.left) c.send_next.new.self c.send_next.new.turn) c.ops_of-ops.ensures c.in_ok-send_next.ensures.ok) c.in_ok-make_room.ensures.turn c.in_ok-make_room.ensures.turn_notes
     c.make_room.ensures.messages c.make_room.ensures.steps c.make_room.ensures.lines c.post.ensures.bag c.post.ensures.log)

@@ -13,7 +13,7 @@ happen-requires g c =
     let w = ran_to c.self.inside.parties c.self.inside.events.items in
     let busy : is_quiet w.plan w.state ≡ false = subst (λ (ran : Ran). is_quiet ran.plan ran.state ≡ false) (sym c.self.view_is) c.requires in
     let able = subst (λ (x : Event). is_enabled w.plan w.state x ≡ true) (sym c.next_event-event.ensures) (next_enabled w.plan w.state c.args.pick busy) in
-    record { ready = ready w c.self.invariant c.next_event-event.result able c.runs_are_sound.ensures.sound c.runs_are_sound.ensures.addressed c.runs_have_room.ensures.room c.routes.ensures.runs }
+    record { ready = ready w c.self.invariant c.next_event-event.result able c.runs_are_sound.ensures.sound c.runs_are_sound.ensures.addressed c.runs_have_room.ensures.room c.runs_are_kept_runs.ensures.run c.runs_are_kept_runs.ensures.state }
 
 pub invariant_of-self-2 : goal.invariant_of-self-2
 invariant_of-self-2 g c =

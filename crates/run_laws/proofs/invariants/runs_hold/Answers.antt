@@ -1,0 +1,5 @@
+use Rattle.run_laws.proofs.Steps.{holds}
+use Rattle.run_laws.proofs.invariants.runs_hold.Goals as goal
+
+pub returns : goal.returns
+returns c plan events valid r = holds plan events valid r
