@@ -1,28 +1,27 @@
 -- A world starts, goes on, and comes to its end.
-use Rattle.std.proofs.Common.{◌≡◌, ℕ, suc, ◌+◌, ◌<◌, ◌≤◌, Bool, true, false, List, [], ◌∷◌, ◌++◌, length, map, refl, sym, ap, ◌∙◌, subst, Some, None, arith}
-use Rattle.std.specs.Prelude.{Option, is_some, ◌^◌, replicate}
+use Rattle.std.proofs.Common.{◌≡◌, ℕ, suc, ◌+◌, ◌<◌, ◌≤◌, true, List, [], ◌∷◌, ◌++◌, length, map, refl, sym, ap, ◌∙◌, subst, arith}
+use Rattle.std.specs.Prelude.{◌^◌}
 use Rattle.far_base.specs.Limits.{IsPlan}
 use Rattle.far_base.specs.PlanView.{PlanView}
 use Rattle.far_base.specs.declared.event.Event.{Event}
-use Rattle.far_base.specs.declared.record.Record.{Record}
 use Rattle.far_invariants.specs.Addressed.{AreAddressed}
 use Rattle.far_invariants.specs.Always.{AlwaysWith}
 use Rattle.far_invariants.specs.Flights.{IsRouted}
 use Rattle.far_invariants.specs.Room.{HasRoom}
 use Rattle.far_invariants.specs.Sound.{IsSound}
 use Rattle.far_model.specs.Answered.{AllAnswered}
-use Rattle.far_model.specs.Events.{Keeping, happens, happens_with, is_enabled}
-use Rattle.far_model.specs.Replies.{AnswersInKind, IsRunWith, kept_events, KeepersAnswer, KeptEvent, ceiling_after, ceiling_with, run_with}
+use Rattle.far_model.specs.Events.{Keeping, happens_with, is_enabled}
+use Rattle.far_model.specs.Replies.{AnswersInKind, IsRunWith, kept_events, KeptEvent, ceiling_after, run_with}
 use Rattle.far_model.specs.Runs.{IsRun, is_finished, is_quiet, next_event, run}
 use Rattle.far_model.specs.State.{State, opening}
 use Rattle.far_model.specs.Work.{work_left}
-use Rattle.far_world.proofs.Choosing.{next_enabled}
-use Rattle.far_world.proofs.Reaching.{answers_there, elsewhere, enabled_there, happens_elsewhere, reached_on, run_to}
+use Rattle.far_world.proofs.Reaching.{answers_there, elsewhere, enabled_there, happens_elsewhere, run_to}
 use Rattle.far_world.proofs.Standings.{counts_fit, servers_there}
-use Rattle.far_world.specs.Reached.{HasStepped, IsReached, IsRunOf, Ran, event_of, ran_to, scene_in, with_count}
+use Rattle.far_world.specs.Reached.{HasStepped, IsReached, Ran, event_of, ran_to, scene_in}
 use Rattle.far_world.specs.Ready.{IsOpened, IsReady}
-use Rattle.far_world.specs.Scene.{KeeperView, Scene, Tells, told_by, with_faults}
+use Rattle.far_world.specs.Scene.{KeeperView, Scene, Tells, told_by}
 use Rattle.far_world.specs.Steps.{IsAfter}
+use Rattle.far_world.specs.Turning.{HasTurned}
 
 pub opens : (plan : PlanView) (before : KeeperView) (scene : Scene) (events : List Event) → IsPlan plan → IsOpened plan before scene → events ≡ [] → IsReached (ran_to scene events)
 opens plan before scene events valid o none = record {
@@ -130,18 +129,26 @@ module _ (w : Ran) (h : IsReached w) where
       let same : length w.events ≡ length h.kept = ap length h.events_are ∙ length_map h.kept in
       omega (arith, same, steps, room.steps, room.small)
 
-  pub steps_on : (pick : ℕ) (e : Event) (new : Scene) (events : List Event) → is_quiet w.plan w.state ≡ false → e ≡ next_event w.plan w.state pick → IsAfter (scene_in w) e new → events ≡ w.events ++ e ∷ []
+  pub turned_on : (e : Event) (new : Scene) (events : List Event) → is_enabled w.plan w.state e ≡ true → IsAfter (scene_in w) e new → events ≡ w.events ++ e ∷ []
       → AlwaysWith (λ plan ceiling s. (e : Event) (k : Keeping) → AnswersInKind s e k → is_enabled plan s e ≡ true → suc (work_left plan (happens_with plan k s e)) ≤ work_left plan s)
-      → StepsCount → AlwaysWith (λ plan ceiling s. HasRoom plan ceiling s) → HasStepped w pick e (ran_to new events)
-  steps_on pick e new events busy chosen a on law counts room =
-      let able : is_enabled w.plan w.state e ≡ true = subst (λ (x : Event). is_enabled w.plan w.state x ≡ true) (sym chosen) (next_enabled w.plan w.state pick busy) in
-      record {
-        plan = a.plan;
-        chosen = chosen;
-        enabled = able;
-        events = on;
-        work = lower e new able a law;
-        state = a.told;
-        tells = a.tells;
-        few = few_events counts room;
-      }
+      → HasTurned w e (ran_to new events)
+  turned_on e new events able a on law = record {
+    plan = a.plan;
+    enabled = able;
+    events = on;
+    work = lower e new able a law;
+    state = a.told;
+    tells = a.tells;
+  }
+
+pub steps_on : (w : Ran) (pick : ℕ) (e : Event) (new : Ran) → e ≡ next_event w.plan w.state pick → length w.events < 2 ^ 28 → HasTurned w e new → HasStepped w pick e new
+steps_on w pick e new chosen few t = record {
+  plan = t.plan;
+  chosen = chosen;
+  enabled = t.enabled;
+  events = t.events;
+  work = t.work;
+  state = t.state;
+  tells = t.tells;
+  few = few;
+}

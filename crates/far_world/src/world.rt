@@ -1,5 +1,5 @@
 use crate::parties::Parties;
-use far_base::{Event, KeptItem, LogEntry, Plan};
+use far_base::{Event, KeptItem, LogEntry, Party, Plan};
 use far_history::Log;
 use far_outside::Keeper;
 use server_keeper::StepFault;
@@ -36,9 +36,12 @@ impl<S: Switch + Drop, K: Keeper + Drop> Model for World<S, K> {
     ghost invariant = { λ w. IsReached (ran_to w.parties w.events.items) };
 }
 
-ghost use Rattle.std.specs.Prelude.{◌≡◌, ◌≤◌, ◌++◌, [], ◌∷◌, false, true, IfOk, IfErr, OnErr, IsErrOf, OnOk};
+ghost use Rattle.std.specs.Prelude.{◌≡◌, ◌^◌, ◌<◌, ◌≤◌, length, ◌++◌, [], ◌∷◌, false, true};
+ghost use Rattle.std.specs.Prelude.{IfOk, IfErr, OnErr, IsErrOf, OnOk};
 ghost use Rattle.far_base.specs.Limits.{IsPlan};
 ghost use Rattle.far_model.specs.Answered.{AllAnswered};
+ghost use Rattle.far_model.specs.Choosing as choosing;
+ghost use Rattle.far_model.specs.Events.{is_enabled};
 ghost use Rattle.far_model.specs.Runs as runs;
 ghost use Rattle.far_model.specs.View.{opening_view};
 ghost use Rattle.far_outside.specs.Faults.{Rose};
@@ -46,6 +49,7 @@ ghost use Rattle.far_world.specs.KeptList.{ListsKept};
 ghost use Rattle.far_world.specs.LastAnswer.{last_answer, last_answered};
 ghost use Rattle.far_world.specs.Reached.{HasStarted, HasStepped, IsReached, scene_in, with_count};
 ghost use Rattle.far_world.specs.Scene.{keeper_of};
+ghost use Rattle.far_world.specs.Turning.{HasTurned, TurnsFor};
 
 /// The operation that is answered in the last line, where this is of the last step.
 fn last_answer(log: &Log) -> Option<u32>
@@ -105,18 +109,68 @@ impl<S: Switch + Drop, K: Keeper + Drop> World<S, K> {
         ensures later { self.old.keeper.faults ≤ self.new.keeper.faults }
         ensures cause { IsErrOf result StepFault.KeeperFailed → Rose self.old.keeper.faults self.new.keeper.faults }
     {
+        let event = self.next_event(pick);
+        self.turn(event)?;
+        Ok(event)
+    }
+
+    /// The event happens. After an error the world is as before but for the count of the keeper's faults.
+    fn turn(&mut self, event: Event) -> Result<(), StepFault>
+        requires { is_enabled self.old.plan self.old.state event ≡ true }
+        ensures turned { OnOk result (HasTurned self.old event self.new) }
+        ensures err { OnErr result (self.new ≡ with_count self.old self.new.keeper.faults) }
+        ensures later { self.old.keeper.faults ≤ self.new.keeper.faults }
+        ensures cause { IsErrOf result StepFault.KeeperFailed → Rose self.old.keeper.faults self.new.keeper.faults }
+    {
         flight_laws::runs_are_sound();
         flight_laws::runs_have_room();
         flight_laws::runs_end();
         flight_laws::runs_are_kept_runs();
-        flight_laws::steps_counted();
-        let event = self.parties.next_event(pick);
         if self.events.reserve(1).is_err() {
             return Err(StepFault::Memory);
         }
         self.parties.happen(event)?;
         self.events.push_reserved(event);
-        Ok(event)
+        Ok(())
+    }
+
+    /// The event that the pick chooses.
+    fn next_event(&self, pick: u64) -> Event
+        requires { runs.is_quiet self.now.plan self.now.state ≡ false }
+        ensures chosen { result ≡ runs.next_event self.now.plan self.now.state pick }
+        ensures few { length self.now.events < 2 ^ 28 }
+    {
+        flight_laws::runs_are_sound();
+        flight_laws::runs_have_room();
+        flight_laws::steps_counted();
+        self.parties.next_event(pick)
+    }
+
+    /// The first event of the party that can happen.
+    fn first_event(&self, who: Party) -> Option<Event>
+        ensures { result ≡ choosing.first_event self.now.plan self.now.state who }
+    {
+        flight_laws::runs_are_sound();
+        flight_laws::runs_have_room();
+        self.parties.first_event(who)
+    }
+
+    /// The first event of the party that can happen, where it has one, happens; the controller's is the order where
+    /// this is enabled. `None` exactly where it has none; then nothing changes. `KeeperFailed` only where the keeper's
+    /// count of faults rose in this call. After an error the world is as before but for that count.
+    pub fn step_for(&mut self, who: Party) -> Result<Option<Event>, StepFault>
+        ensures turned { IfOk result (λ found. TurnsFor self.old who found self.new) }
+        ensures err { OnErr result (self.new ≡ with_count self.old self.new.keeper.faults) }
+        ensures later { self.old.keeper.faults ≤ self.new.keeper.faults }
+        ensures cause { IsErrOf result StepFault.KeeperFailed → Rose self.old.keeper.faults self.new.keeper.faults }
+    {
+        match self.first_event(who) {
+            None => Ok(None),
+            Some(event) => {
+                self.turn(event)?;
+                Ok(Some(event))
+            }
+        }
     }
 
     /// How many events can happen now; an enabled order counts too.

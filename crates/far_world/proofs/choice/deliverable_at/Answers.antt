@@ -1,4 +1,4 @@
-use Rattle.std.proofs.Common.{rules, ◌≡◌, sym, ◌∙◌, true, take, get_or, arith}
+use Rattle.std.proofs.Common.{rules, ◌≡◌, sym, ◌∙◌, take, arith}
 use Rattle.std.specs.List.{count_by}
 use Rattle.far_model.specs.Events.{can_deliver}
 use Rattle.far_world.proofs.Choosing.{delivery_is}

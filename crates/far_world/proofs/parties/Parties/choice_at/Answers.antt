@@ -1,10 +1,10 @@
-use Rattle.std.proofs.Common.{◌≡◌, ℕ, Bool, ◌+◌, ◌-◌, ◌≤◌, sym, ap, ◌∙◌, subst, Some, get_or, arith}
+use Rattle.std.proofs.Common.{◌≡◌, Bool, ◌+◌, ◌-◌, ◌≤◌, sym, ap, ◌∙◌, subst, Some, get_or, arith}
 use Rattle.std.specs.List.{count_by}
 use Rattle.std.specs.Prelude.{is_some, slice_get}
 use Rattle.far_base.specs.declared.event.Event.TheVariants.{Deliver, Tick}
 use Rattle.far_model.specs.Controller.{ready, tick}
 use Rattle.far_model.specs.Events.{can_deliver, deliver_choices}
-use Rattle.far_world.proofs.Counting.{deliver_there, lasts, late_there, senders_are}
+use Rattle.far_world.proofs.Counting.{deliver_there, late_there, senders_are}
 use Rattle.far_world.specs.Choices.{controller_choices}
 use Rattle.far_world.specs.Scene.{Scene}
 use Rattle.far_world.specs.Seats.{clients_of}

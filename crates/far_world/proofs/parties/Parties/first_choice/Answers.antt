@@ -1,4 +1,4 @@
-use Rattle.std.proofs.Common.{◌≡◌, ◌<◌, ◌≤◌, length, refl, sym, ap, ◌∙◌, arith}
+use Rattle.std.proofs.Common.{◌<◌, ◌≤◌, length, refl, sym, ap, ◌∙◌, arith}
 use Rattle.far_base.specs.declared.party.Party.{Party}
 use Rattle.far_model.specs.Choosing.{event_party, same_party}
 use Rattle.far_model.specs.Events.{choices}

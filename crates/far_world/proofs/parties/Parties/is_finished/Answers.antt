@@ -1,4 +1,4 @@
-use Rattle.std.proofs.Common.{◌≡◌, Bool, sym, ap, ◌∙◌}
+use Rattle.std.proofs.Common.{◌≡◌, sym, ap, ◌∙◌}
 use Rattle.far_model.specs.Members.{is_empty}
 use Rattle.far_world.proofs.Counting.{finished_is}
 use Rattle.far_world.specs.Scene.{Scene}
