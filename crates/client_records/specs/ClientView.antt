@@ -1,5 +1,6 @@
 -- A client as contracts see it. What it has still to send is not kept by it.
-use Rattle.std.specs.Prelude.{◌≡◌, ℕ, ◌<◌, ◌≤◌, Bool, true, false, nat_lt, List, [], length, slice_index_or, Option, None, Some}
+use Rattle.std.specs.Prelude.{◌≡◌, ℕ, ◌<◌, ◌≤◌, Bool, true, false, nat_lt, List, [], length, slice_index_or, Option}
+use Rattle.std.specs.Prelude.{None, Some}
 use Rattle.far_base.specs.declared.packet.Packet.{Packet}
 use Rattle.far_base.specs.declared.packet.Packet.TheVariants.{GetAns, WriteAns}
 use Rattle.far_base.specs.declared.plan.OpLine.{OpLine}
@@ -52,5 +53,6 @@ written (Some o) num = record { key = o.1.key; num = num; body = o.1.body }
 
 -- the client once its operation is answered
 abbrev pub after_answer : ClientView → Packet → ClientView
-after_answer c (WriteAns caller op key num kept) = record (seen_as c (preserves (closed (state_of [] c)) kept (written c.waits num))) { waits = None }
+after_answer c (WriteAns caller op key num kept) = record (seen_as c (preserves (closed (state_of [] c)) kept
+    (written c.waits num))) { waits = None }
 after_answer c _ = record c { waits = None }

@@ -19,7 +19,12 @@ impl Model for Client {
 
     ghost Value = { ClientView };
 
-    ghost view = { λ c. record { number = c.number; waits = c.open; released = c.released; preserved = c.preserved.items } };
+    ghost view = { λ c. record {
+      number = c.number;
+      waits = c.open;
+      released = c.released;
+      preserved = c.preserved.items;
+    } };
 
     ghost invariant = { λ c. HasRoom c.open (vec_len c.preserved) (vec_capacity c.preserved) };
 }
@@ -62,7 +67,7 @@ impl Client {
     pub fn send(&mut self, op: u32, line: &OpLine) -> Result<Packet, Memory>
         requires { self.old.waits ≡ None }
         ensures packet { IfOk result (λ packet. packet ≡ model.request self.old.number op line.now) }
-        ensures open { OnOk result (self.new ≡ record self.old { waits = Some (op, line.now) }) }
+        ensures waits { OnOk result (self.new ≡ record self.old { waits = Some (op, line.now) }) }
         ensures unchanged { OnErr result (self.new ≡ self.old) }
     {
         self.preserved.reserve(1)?;
@@ -117,7 +122,8 @@ impl Client {
     pub fn tell(&self, round: u32, i: u32) -> Packet
         requires few { length self.now.preserved < 2 ^ 32 }
         requires there { i < max (length self.now.preserved) 1 }
-        ensures { slice_get (model.tells round self.now.number self.now.preserved) i ≡ Some (to_party Controller result) }
+        ensures { slice_get (model.tells round self.now.number self.now.preserved) i ≡ Some
+            (to_party Controller result) }
     {
         Packet::Told {
             round,

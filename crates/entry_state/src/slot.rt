@@ -21,7 +21,14 @@ impl Model for Slot {
 
     ghost Value = { SlotView };
 
-    ghost view = { λ s. record { key = s.key; tag = s.tag; valid = s.valid; latest = s.latest; num = s.num; body = s.body } };
+    ghost view = { λ s. record {
+      key = s.key;
+      tag = s.tag;
+      valid = s.valid;
+      latest = s.latest;
+      num = s.num;
+      body = s.body;
+    } };
 
     ghost invariant = { λ s. (s.valid ≡ is_some s.key) × (IsTrue s.latest → IsTrue s.valid) };
 }
@@ -55,8 +62,8 @@ impl Slot {
         self.body = body;
     }
 
-    /// Whether the slot takes the record of a server's reply. A latest slot does where the reply has a greater number. An
-    /// outdated one does where the reply has its tag and a number that is not below its own.
+    /// Whether the slot takes the record of a server's reply. A latest slot does where the reply has a greater number.
+    /// An outdated one does where the reply has its tag and a number that is not below its own.
     pub fn takes_reply(&self, tag: Option<u64>, num: u64) -> bool
         ensures { result ≡ model.takes_reply tag num self.now }
     {
@@ -70,7 +77,8 @@ impl Slot {
     /// has the reply's number where that is greater. The tag is there for a reply to a read.
     pub fn reply_seen(&mut self, tag: Option<u64>, num: u64, body: Body)
         requires { IsTrue self.old.valid }
-        ensures { self.new ≡ (if model.takes_reply tag num self.old then model.absorbing num body self.old else model.raised num self.old) }
+        ensures { self.new ≡ (if model.takes_reply tag num self.old then model.absorbing num body self.old else
+            model.raised num self.old) }
     {
         if self.takes_reply(tag, num) {
             self.absorb(num, body);
@@ -79,8 +87,8 @@ impl Slot {
         }
     }
 
-    /// A slot that is not valid takes the key and the tag, and is outdated, with number 0. Whether it was not valid; a valid
-    /// slot stays.
+    /// A slot that is not valid takes the key and the tag, and is outdated, with number 0. Whether it was not valid; a
+    /// valid slot stays.
     pub fn admit(&mut self, key: Key, tag: u64) -> bool
         ensures slot { self.new ≡ model.admitted key tag self.old }
         ensures done { result ≡ not self.old.valid }
@@ -106,8 +114,8 @@ impl Slot {
         self.valid && self.tag == tag
     }
 
-    /// Whether the slot may be emptied: it is valid, has the tag, and is outdated, or `latest` is true and its number is
-    /// this one.
+    /// Whether the slot may be emptied: it is valid, has the tag, and is outdated, or `latest` is true and its number
+    /// is this one.
     pub fn may_go(&self, tag: u64, latest: bool, num: u64) -> bool
         ensures { result ≡ model.may_go tag latest num self.now }
     {

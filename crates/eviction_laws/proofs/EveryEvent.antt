@@ -17,7 +17,7 @@ use Rattle.far_base.specs.declared.record.Record.{Record}
 use Rattle.far_model.specs.Controller.{ControllerState, tick, tick_wants, tick_want, tick_free, tick_room, makes_room, wanted, evict_key, evict_held, ready, client_told, top_told}
 use Rattle.far_model.specs.View.{server_of}
 use Rattle.far_model.specs.Replies.{RepliesAt, RepliesToMessage, AnswersInKind}
-use Rattle.flight_laws.proofs.WithoutCache.{answers_in_kind}
+use Rattle.flight_laws.proofs.InKind.{answers_in_kind}
 use Rattle.far_model.specs.Events.{happens_with, server_turn, happens, keeping_of, is_enabled, handled, delivers, can_deliver_some, can_deliver, ticks, does_order, is_order_due, is_order_enabled, is_possible, controller_turn, can_recover}
 use Rattle.far_model.specs.Evictions.{is_free, has_key, holds_key, first_place, victim, hand_after}
 use Rattle.far_invariants.specs.Flights.{subject, is_operation}

@@ -9,7 +9,8 @@ use Rattle.far_base.specs.declared.plan.Op.TheVariants.{Get, Put, Del}
 use Rattle.far_base.specs.declared.plan.OpLine.{OpLine}
 use Rattle.far_base.specs.declared.plan.Order.{Order}
 use Rattle.far_base.specs.declared.plan.Order.TheVariants.{Admit, Evict, Snap, Stop, StopAt}
-use Rattle.far_base.specs.declared.plan.TheConstants.{CLIENT_LIMIT, SERVER_LIMIT, SLOT_LIMIT, HOT_LIMIT, OP_LIMIT, ORDER_LIMIT, SNAP_LIMIT, STOP_LIMIT, STEP_LIMIT}
+use Rattle.far_base.specs.declared.plan.TheConstants.{CLIENT_LIMIT, SERVER_LIMIT, SLOT_LIMIT, HOT_LIMIT, OP_LIMIT}
+use Rattle.far_base.specs.declared.plan.TheConstants.{ORDER_LIMIT, SNAP_LIMIT, STOP_LIMIT, STEP_LIMIT}
 
 -- sizes within the limits
 pub record IsConfig (config : Config) : Type 0 where

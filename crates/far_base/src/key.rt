@@ -26,7 +26,8 @@ impl Model for Key {
 
 ghost use Rattle.std.specs.Prelude.{◌≡◌, ◌+◌, ◌*◌, ◌%◌, ◌≤◌, ◌<◌, ◌↔◌, length, IsTrue, IfSome, IsSome, sum};
 ghost use Rattle.std.specs.List.{list_all};
-ghost use Rattle.far_base.specs.Key.{is_key, is_key_text, is_visible, all_zero, visible_then_zeros, key_text, weighted_sum};
+ghost use Rattle.far_base.specs.Key.{is_key, is_key_text, is_visible, all_zero, visible_then_zeros, key_text};
+ghost use Rattle.far_base.specs.Key.{weighted_sum};
 ghost use Rattle.far_base.specs.Padded.{padded};
 
 fn are_zeros(bytes: &[u8]) -> bool

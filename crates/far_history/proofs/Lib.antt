@@ -1,11 +1,14 @@
+pub mod Bodies
 pub mod Emissions
 pub mod Exposed
 pub mod Keys
 pub mod Lists
 pub mod Orders
+pub mod NewestLaws
 pub mod Placing
 pub mod RowTexts
 pub mod Rows
+pub mod Summaries
 pub mod Walk
 pub mod Wanted
 pub mod Writes

@@ -17,7 +17,8 @@ use Rattle.far_model.specs.Log.{At, same_key, sending}
 use Rattle.far_model.specs.History.{IsPlace, IsHistory, key_of, written_by, last_write, held_in, IsKeyBefore, IsFinalMap}
 use Rattle.far_history.specs.declared.told.Sending.{Sending}
 use Rattle.far_history.specs.declared.told.Told.{Told}
-use Rattle.far_history.specs.Told.{unheard, sending_told, IsRow}
+use Rattle.far_history.specs.Stored.{body_in}
+use Rattle.far_history.specs.Told.{unheard, op_told, sending_told, IsRow}
 use Rattle.far_history.specs.LastWrites.{with_write, entries_with, entries_after, record_of}
 use Rattle.far_history.proofs.Keys.{same_key_tells}
 use Rattle.far_history.proofs.Lists.{each_among}
@@ -74,17 +75,17 @@ rise_inserted (e ∷ es) k v h =
       | above b a ↦ subst P (sym b) (each_inserted e.0 es k v h.0 a, rise_inserted es k v h.1)
     ]
 
-rise_with : (es : List Entry) (num : ℕ) (sent : Option Sending) → Pairs Rise es → Pairs Rise (with_write es num sent)
-rise_with es num None h = h
-rise_with es num (Some s) h = rise_inserted es s.line.key (record { num = num; body = s.line.body }) h
+rise_with : (bytes : List ℕ) (es : List Entry) (num : ℕ) (sent : Option Sending) → Pairs Rise es → Pairs Rise (with_write bytes es num sent)
+rise_with bytes es num None h = h
+rise_with bytes es num (Some s) h = rise_inserted es s.line.key (record { num = num; body = body_in bytes s.body }) h
 
-rise_once : (table : List Told) (es : List Entry) (p : Placed) (b : Bool) → Pairs Rise es → Pairs Rise (if b then es else with_write es p.num (slice_index_or table p.op unheard).sent)
-rise_once table es p true h = h
-rise_once table es p false h = rise_with es p.num (slice_index_or table p.op unheard).sent h
+rise_once : (bytes : List ℕ) (table : List Told) (es : List Entry) (p : Placed) (b : Bool) → Pairs Rise es → Pairs Rise (if b then es else with_write bytes es p.num (slice_index_or table p.op unheard).sent)
+rise_once bytes table es p true h = h
+rise_once bytes table es p false h = rise_with bytes es p.num (slice_index_or table p.op unheard).sent h
 
-rise_after : (table : List Told) (es : List Entry) (ps : List Placed) → Pairs Rise es → Pairs Rise (entries_after table es ps)
-rise_after table es [] h = h
-rise_after table es (p ∷ ps) h = rise_after table (entries_with table es p) ps (rise_once table es p p.read h)
+rise_after : (bytes : List ℕ) (table : List Told) (es : List Entry) (ps : List Placed) → Pairs Rise es → Pairs Rise (entries_after bytes table es ps)
+rise_after bytes table es [] h = h
+rise_after bytes table es (p ∷ ps) h = rise_after bytes table (entries_with bytes table es p) ps (rise_once bytes table es p p.read h)
 
 -- ---- what the entries have for a key
 
@@ -121,17 +122,17 @@ held_of None = None
 held_of (Some w) = Some (record { num = w.num; body = w.body })
 
 -- a place of an operation whose row says what it does
-record IsSentAs (lines : List LogLine) (table : List Told) (p : Placed) : Type 0 where
+record IsSentAs (bytes : List ℕ) (lines : List LogLine) (table : List Told) (p : Placed) : Type 0 where
   sent : Sending
   row : (slice_index_or table p.op unheard).sent ≡ Some sent
-  first : sending lines p.op ≡ Some (record { moment = sent.moment; what = sent.line })
+  first : sending lines p.op ≡ Some (record { moment = sent.moment; what = op_told bytes sent })
 
-sent_as : (o : Option Sending) (lines : List LogLine) (table : List Told) (p : Placed) (t : At OpLine) → (slice_index_or table p.op unheard).sent ≡ o → sending_told o ≡ sending lines p.op → sending lines p.op ≡ Some t → IsSentAs lines table p
-sent_as None lines table p t e f g = absurd cc
-sent_as (Some s) lines table p t e f g = record { sent = s; row = e; first = sym f }
+sent_as : (bytes : List ℕ) (o : Option Sending) (lines : List LogLine) (table : List Told) (p : Placed) (t : At OpLine) → (slice_index_or table p.op unheard).sent ≡ o → sending_told bytes o ≡ sending lines p.op → sending lines p.op ≡ Some t → IsSentAs bytes lines table p
+sent_as bytes None lines table p t e f g = absurd cc
+sent_as bytes (Some s) lines table p t e f g = record { sent = s; row = e; first = sym f }
 
-is_sent_as : (lines : List LogLine) (table : List Told) → ((op : ℕ) → IsRow lines op (slice_index_or table op unheard)) → (p : Placed) → IsPlace lines p → IsSentAs lines table p
-is_sent_as lines table rows p i = sent_as (slice_index_or table p.op unheard).sent lines table p i.sent refl (rows p.op).sent i.first
+is_sent_as : (bytes : List ℕ) (lines : List LogLine) (table : List Told) → ((op : ℕ) → IsRow bytes lines op (slice_index_or table op unheard)) → (p : Placed) → IsPlace lines p → IsSentAs bytes lines table p
+is_sent_as bytes lines table rows p i = sent_as bytes (slice_index_or table p.op unheard).sent lines table p i.sent refl (rows p.op).sent i.first
 
 -- the last write after one more operation
 abbrev next_last : List LogLine → List ℕ → Option Versioned → Placed → Option Versioned
@@ -141,26 +142,26 @@ held_if : (b : Bool) (w : Versioned) (o : Option Versioned) → held_of (if b th
 held_if true w o = refl
 held_if false w o = refl
 
-next_write : (lines : List LogLine) (table : List Told) (es : List Entry) (p : Placed) (q : List ℕ) (s : IsSentAs lines table p)
-    → held_of (found q (with_write es p.num (slice_index_or table p.op unheard).sent)) ≡ (if same_key q (key_of lines p.op) then Some (written_by lines p) else held_of (found q es))
-next_write lines table es p q s =
-    let w : Versioned = record { num = p.num; body = s.sent.line.body } in
-    let a : held_of (found q (with_write es p.num (slice_index_or table p.op unheard).sent)) ≡ held_of (found q (insert_entry cmp es s.sent.line.key w)) = rw s.row refl in
+next_write : (bytes : List ℕ) (lines : List LogLine) (table : List Told) (es : List Entry) (p : Placed) (q : List ℕ) (s : IsSentAs bytes lines table p)
+    → held_of (found q (with_write bytes es p.num (slice_index_or table p.op unheard).sent)) ≡ (if same_key q (key_of lines p.op) then Some (written_by lines p) else held_of (found q es))
+next_write bytes lines table es p q s =
+    let w : Versioned = record { num = p.num; body = body_in bytes s.sent.body } in
+    let a : held_of (found q (with_write bytes es p.num (slice_index_or table p.op unheard).sent)) ≡ held_of (found q (insert_entry cmp es s.sent.line.key w)) = rw s.row refl in
     let b : held_of (found q (insert_entry cmp es s.sent.line.key w)) ≡ held_of (if same_key q s.sent.line.key then Some w else found q es) = ap held_of (found_inserted q es s.sent.line.key w) in
-    let d : (if same_key q (key_of lines p.op) then Some (written_by lines p) else held_of (found q es)) ≡ (if same_key q s.sent.line.key then Some (record { num = p.num; body = s.sent.line.body }) else held_of (found q es)) = rw s.first refl in
+    let d : (if same_key q (key_of lines p.op) then Some (written_by lines p) else held_of (found q es)) ≡ (if same_key q s.sent.line.key then Some (record { num = p.num; body = body_in bytes s.sent.body }) else held_of (found q es)) = rw s.first refl in
     a ∙ (b ∙ (held_if (same_key q s.sent.line.key) w (found q es) ∙ sym d))
 
-next_found : (lines : List LogLine) (table : List Told) (es : List Entry) (p : Placed) (q : List ℕ) (s : IsSentAs lines table p) (b : Bool)
-    → held_of (found q (if b then es else with_write es p.num (slice_index_or table p.op unheard).sent)) ≡ (if b then held_of (found q es) else (if same_key q (key_of lines p.op) then Some (written_by lines p) else held_of (found q es)))
-next_found lines table es p q s true = refl
-next_found lines table es p q s false = next_write lines table es p q s
+next_found : (bytes : List ℕ) (lines : List LogLine) (table : List Told) (es : List Entry) (p : Placed) (q : List ℕ) (s : IsSentAs bytes lines table p) (b : Bool)
+    → held_of (found q (if b then es else with_write bytes es p.num (slice_index_or table p.op unheard).sent)) ≡ (if b then held_of (found q es) else (if same_key q (key_of lines p.op) then Some (written_by lines p) else held_of (found q es)))
+next_found bytes lines table es p q s true = refl
+next_found bytes lines table es p q s false = next_write bytes lines table es p q s
 
-found_after : (lines : List LogLine) (table : List Told) (es : List Entry) (ps : List Placed) (q : List ℕ) → ((p : Placed) → Among p ps → IsSentAs lines table p)
-    → held_of (found q (entries_after table es ps)) ≡ last_write lines q (held_of (found q es)) ps
-found_after lines table es [] q h = refl
-found_after lines table es (p ∷ ps) q h =
-    found_after lines table (entries_with table es p) ps q (λ x a. h x (inr a))
-    ∙ ap (λ (o : Option Versioned). last_write lines q o ps) (next_found lines table es p q (h p (inl refl)) p.read)
+found_after : (bytes : List ℕ) (lines : List LogLine) (table : List Told) (es : List Entry) (ps : List Placed) (q : List ℕ) → ((p : Placed) → Among p ps → IsSentAs bytes lines table p)
+    → held_of (found q (entries_after bytes table es ps)) ≡ last_write lines q (held_of (found q es)) ps
+found_after bytes lines table es [] q h = refl
+found_after bytes lines table es (p ∷ ps) q h =
+    found_after bytes lines table (entries_with bytes table es p) ps q (λ x a. h x (inr a))
+    ∙ ap (λ (o : Option Versioned). last_write lines q o ps) (next_found bytes lines table es p q (h p (inl refl)) p.read)
 
 -- ---- the records of the entries
 
@@ -197,12 +198,12 @@ found_record (e ∷ es) r h =
       | inr i ↦ inr (found_record es r (sym (ap held_of (other_if r.key e.0 (Some e.1) (found r.key es) i.1)) ∙ h))
     ]
 
-pub is_final_map : (lines : List LogLine) (table : List Told) (ps : List Placed) → ((op : ℕ) → IsRow lines op (slice_index_or table op unheard)) → IsHistory lines ps → IsFinalMap lines ps (map record_of (entries_after table [] ps))
-is_final_map lines table ps rows h =
-    let up : Pairs Rise (entries_after table [] ps) = rise_after table [] ps tt in
-    let f : (q : List ℕ) → held_of (found q (entries_after table [] ps)) ≡ last_write lines q None ps = λ q. found_after lines table [] ps q (λ p a. is_sent_as lines table rows p (h.sound p a)) in
+pub is_final_map : (bytes : List ℕ) (lines : List LogLine) (table : List Told) (ps : List Placed) → ((op : ℕ) → IsRow bytes lines op (slice_index_or table op unheard)) → IsHistory lines ps → IsFinalMap lines ps (map record_of (entries_after bytes table [] ps))
+is_final_map bytes lines table ps rows h =
+    let up : Pairs Rise (entries_after bytes table [] ps) = rise_after bytes table [] ps tt in
+    let f : (q : List ℕ) → held_of (found q (entries_after bytes table [] ps)) ≡ last_write lines q None ps = λ q. found_after bytes lines table [] ps q (λ p a. is_sent_as bytes lines table rows p (h.sound p a)) in
     record {
-      ordered = records_rise (entries_after table [] ps) up;
-      sound = λ r a. sym (f r.key) ∙ record_found (entries_after table [] ps) up r a;
-      complete = λ r e. found_record (entries_after table [] ps) r (f r.key ∙ e);
+      ordered = records_rise (entries_after bytes table [] ps) up;
+      sound = λ r a. sym (f r.key) ∙ record_found (entries_after bytes table [] ps) up r a;
+      complete = λ r e. found_record (entries_after bytes table [] ps) r (f r.key ∙ e);
     }

@@ -1,7 +1,11 @@
 pub mod LastWrites
 pub mod Marks
+pub mod Newest
 pub mod Places
 pub mod Report
 pub mod RoomyLog
 pub mod Rows
+pub mod Stored
+pub mod Summary
+pub mod Tallies
 pub mod Told

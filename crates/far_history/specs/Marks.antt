@@ -4,6 +4,9 @@ use Rattle.far_base.specs.declared.log.LogLine.{LogLine}
 use Rattle.far_base.specs.declared.log.LogEntry.{LogEntry}
 use Rattle.far_base.specs.declared.log.LogEntry.TheVariants.{Emitted}
 use Rattle.far_model.specs.Log.{is_read}
+use Rattle.far_history.specs.declared.stored.Stored.{Stored}
+use Rattle.far_history.specs.declared.stored.Bare.{Bare}
+use Rattle.far_history.specs.declared.stored.Bare.TheVariants.{Emitted as BareEmitted}
 use Rattle.far_history.specs.declared.told.Sending.{Sending}
 use Rattle.far_history.specs.declared.told.Reply.{Reply}
 use Rattle.far_history.specs.declared.told.Told.{Told}
@@ -57,6 +60,18 @@ wanted_mark op row = wanted_of op row row.sent
 abbrev pub or_more : {X : Type 0} → Option X → List X → List X
 or_more None xs = xs
 or_more (Some x) xs = x ∷ xs
+
+abbrev pub shown_by_bare : List Told → ℕ → Bare → Option Mark
+shown_by_bare table moment (BareEmitted op num near) = mark_shown moment op num (key_in table op)
+shown_by_bare table moment _ = None
+
+-- the same of a line whose body stands elsewhere
+abbrev pub shown_stored : List Told → Stored → Option Mark
+shown_stored table l = shown_by_bare table l.moment l.bare
+
+abbrev pub shown_in : List Told → List Stored → List Mark
+shown_in table [] = []
+shown_in table (l ∷ ls) = or_more (shown_stored table l) (shown_in table ls)
 
 abbrev pub shown_marks : List Told → List LogLine → List Mark
 shown_marks table [] = []

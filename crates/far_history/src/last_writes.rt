@@ -4,6 +4,7 @@ ghost use Rattle.far_history.specs.LastWrites.{entries_with, entries_after, reco
 
 use crate::log::Log;
 use crate::places::places_in;
+use crate::stored::body_at;
 use crate::told::{Told, gather, sending_of};
 use far_base::{Key, Memory, Placed, Record, Versioned};
 use std::alloc::Global;
@@ -12,10 +13,11 @@ use std::collections::BTreeMap;
 /// Sets the key of the place's operation, if it writes.
 fn note_write(
     last: &mut BTreeMap<Key, Versioned>,
+    bytes: &[u8],
     table: &[Told],
     place: &Placed,
 ) -> Result<(), Memory>
-    ensures { OnOk result (last.new.entries ≡ entries_with table.now last.old.entries place.now) }
+    ensures { OnOk result (last.new.entries ≡ entries_with bytes.now table.now last.old.entries place.now) }
 {
     if place.read {
         return Ok(());
@@ -25,7 +27,7 @@ fn note_write(
     };
     let write = Versioned {
         num: place.num,
-        body: sent.line.body,
+        body: body_at(bytes, sent.body),
     };
     match last.insert(sent.line.key, write) {
         Ok(_) => Ok(()),
@@ -36,20 +38,24 @@ fn note_write(
 /// The last write of each key.
 fn writes_of(
     alloc: Global,
+    bytes: &[u8],
     table: &[Told],
     places: &[Placed],
 ) -> Result<BTreeMap<Key, Versioned>, Memory>
-    ensures { IfOk result (λ last. last.entries ≡ entries_after table.now [] places.now) }
+    ensures { IfOk result (λ last. last.entries ≡ entries_after bytes.now table.now [] places.now) }
 {
     let mut last = BTreeMap::new(alloc);
     for place in places {
-        note_write(&mut last, table, place)?;
+        note_write(&mut last, bytes, table, place)?;
     }
     Ok(last)
 }
 
 /// The records of the keys, by key.
-fn records_of(alloc: Global, last: &BTreeMap<Key, Versioned>) -> Result<Vec<Record>, Memory>
+pub(crate) fn records_of(
+    alloc: Global,
+    last: &BTreeMap<Key, Versioned>,
+) -> Result<Vec<Record>, Memory>
     ensures { IfOk result (λ records. records.items ≡ map record_of last.now.entries) }
 {
     let mut records = Vec::new(alloc);
@@ -67,12 +73,13 @@ fn records_of(alloc: Global, last: &BTreeMap<Key, Versioned>) -> Result<Vec<Reco
 /// The last write of each key that was written, by key.
 pub(crate) fn last_writes(
     alloc: Global,
+    bytes: &[u8],
     table: &[Told],
     places: &[Placed],
 ) -> Result<Vec<Record>, Memory>
-    ensures { IfOk result (λ records. records.items ≡ map record_of (entries_after table.now [] places.now)) }
+    ensures { IfOk result (λ records. records.items ≡ map record_of (entries_after bytes.now table.now [] places.now)) }
 {
-    let last = writes_of(alloc, table, places)?;
+    let last = writes_of(alloc, bytes, table, places)?;
     records_of(alloc, &last)
 }
 
@@ -80,8 +87,8 @@ pub(crate) fn last_writes(
 pub fn final_map(alloc: Global, log: &Log) -> Result<Vec<Record>, Memory>
     ensures { IfOk result (λ records. IsMapOfHistory log.now.lines records.items) }
 {
-    let lines = log.lines();
+    let (lines, bytes) = log.parts();
     let table = gather(alloc, lines)?;
     let places = places_in(alloc, &table, lines)?;
-    last_writes(alloc, &table, &places)
+    last_writes(alloc, bytes, &table, &places)
 }

@@ -1,5 +1,6 @@
+use crate::stored::{Bare, Stored};
 use crate::told::{Sending, Told};
-use far_base::{Key, LogEntry, LogLine, Memory, Op};
+use far_base::{Key, Memory, Op};
 use std::alloc::Global;
 
 /// A number of a key at which something happens: the switch shows it (`shown`, at the moment), or an
@@ -16,7 +17,7 @@ pub(crate) struct Mark {
 
 ghost use Rattle.std.specs.Prelude.{◌≡◌, ◌^◌, ◌≤◌, ◌++◌, length, OnOk, IfOk};
 ghost use Rattle.far_model.specs.Log as model;
-ghost use Rattle.far_history.specs.Marks.{key_in, shown_mark, awaited_number, wanted_mark, shown_marks, wanted_marks};
+ghost use Rattle.far_history.specs.Marks.{key_in, shown_stored, awaited_number, wanted_mark, shown_in, wanted_marks};
 
 /// The key of an operation.
 fn key_of(table: &[Told], op: u32) -> Option<Key>
@@ -26,10 +27,10 @@ fn key_of(table: &[Told], op: u32) -> Option<Key>
 }
 
 /// The number that the line shows of a key.
-fn shown_by(table: &[Told], line: &LogLine) -> Option<Mark>
-    ensures { result ≡ shown_mark table.now line.now }
+fn shown_by(table: &[Told], line: &Stored) -> Option<Mark>
+    ensures { result ≡ shown_stored table.now line.now }
 {
-    let LogEntry::Emitted { op, num, .. } = line.entry else {
+    let Bare::Emitted { op, num, .. } = line.bare else {
         return None;
     };
     Some(Mark {
@@ -83,8 +84,8 @@ fn wanted_by(told: &Told, op: u32) -> Option<Mark>
     })
 }
 
-fn add_shown(marks: &mut Vec<Mark>, table: &[Told], lines: &[LogLine]) -> Result<(), Memory>
-    ensures { OnOk result (marks.new.items ≡ marks.old.items ++ shown_marks table.now lines.now) }
+fn add_shown(marks: &mut Vec<Mark>, table: &[Told], lines: &[Stored]) -> Result<(), Memory>
+    ensures { OnOk result (marks.new.items ≡ marks.old.items ++ shown_in table.now lines.now) }
 {
     for line in lines {
         if let Some(mark) = shown_by(table, line) {
@@ -110,10 +111,10 @@ fn add_wanted(marks: &mut Vec<Mark>, table: &[Told]) -> Result<(), Memory>
 pub(crate) fn all_marks(
     alloc: Global,
     table: &[Told],
-    lines: &[LogLine],
+    lines: &[Stored],
 ) -> Result<Vec<Mark>, Memory>
     requires { length table.now ≤ 2 ^ 32 }
-    ensures { IfOk result (λ marks. marks.items ≡ shown_marks table.now lines.now ++ wanted_marks 0 table.now) }
+    ensures { IfOk result (λ marks. marks.items ≡ shown_in table.now lines.now ++ wanted_marks 0 table.now) }
 {
     let mut marks = Vec::new(alloc);
     add_shown(&mut marks, table, lines)?;

@@ -1,17 +1,18 @@
-ghost use Rattle.std.specs.Prelude.{◌≡◌, ◌++◌, [], ◌∷◌, IfOk, OnOk, codes, slice_index_or, Some};
+ghost use Rattle.std.specs.Prelude.{◌≡◌, List, ℕ, ◌++◌, [], ◌∷◌, IfOk, OnOk, codes, slice_index_or, Some};
 ghost use Rattle.std.specs.Fmt.{decimal};
 ghost use Rattle.far_base.specs.Key.{key_text};
 ghost use Rattle.far_text.specs.Text.{text_line, body_word};
-ghost use Rattle.far_history.specs.Told.{unheard};
+ghost use Rattle.far_history.specs.Told.{unheard, op_told, answer_told};
 ghost use Rattle.far_history.specs.RoomyLog.{log_view};
 ghost use Rattle.far_history.specs.Report as words;
-ghost use Rattle.far_history.specs.Rows.{row_text, history_by_rows};
+ghost use Rattle.far_history.specs.Rows.{row_text, history_by_rows, stored_control, stored_text, control_by_stored};
 
 use crate::last_writes::last_writes;
 use crate::log::Log;
 use crate::places::places_in;
+use crate::stored::{Bare, Stored, body_at};
 use crate::told::{Reply, Sending, Told, gather};
-use far_base::{Body, Key, LogEntry, LogLine, Memory, Op, Placed, Record};
+use far_base::{Body, Key, Memory, Op, Placed, Record};
 use far_text::{Word, put_line, put_text};
 use std::alloc::Global;
 
@@ -70,16 +71,21 @@ fn put_words(
 /// Writes the line of an operation that was sent and answered.
 fn put_answered(
     out: &mut Vec<u8>,
+    bytes: &[u8],
     place: &Placed,
     sent: &Sending,
     reply: &Reply,
     answered: u64,
 ) -> Result<(), Memory>
-    ensures { OnOk result (out.new.items ≡ out.old.items ++ words.placed_line place.now (Some (record { moment = sent.now.moment; what = sent.now.line })) (Some (record { moment = 0; what = record { num = reply.now.num; body = reply.now.body; near = reply.now.near } })) (Some (record { moment = answered; what = 0 }))) }
+    ensures { OnOk result (out.new.items ≡ out.old.items ++ words.placed_line place.now (Some (record { moment = sent.now.moment; what = op_told bytes.now sent.now })) (Some (record { moment = 0; what = answer_told bytes.now reply.now })) (Some (record { moment = answered; what = 0 }))) }
 {
     let line = sent.line;
     let near = reply.near;
-    let body = if place.read { reply.body } else { line.body };
+    let body = if place.read {
+        body_at(bytes, reply.body)
+    } else {
+        body_at(bytes, sent.body)
+    };
     let words = RowWords {
         kind: kind_word(&line.op),
         key: &line.key,
@@ -186,35 +192,39 @@ fn put_recovery(out: &mut Vec<u8>, moment: u64, counter: u64, count: u64) -> Res
 }
 
 /// Writes the line of a control entry, and nothing for a line of an operation.
-fn put_entry(out: &mut Vec<u8>, line: &LogLine) -> Result<(), Memory>
-    ensures { OnOk result (out.new.items ≡ out.old.items ++ words.entry_text line.now.moment line.now.entry) }
+fn put_entry(out: &mut Vec<u8>, bytes: &[u8], line: &Stored) -> Result<(), Memory>
+    ensures { OnOk result (out.new.items ≡ out.old.items ++ stored_text bytes.now line.now) }
 {
     let moment = line.moment;
-    match line.entry {
-        LogEntry::Admitted { slot, key, tag } => {
-            put_slot(out, b"admitted", moment, slot, &key, tag)
-        }
-        LogEntry::Evicted { slot, key, tries } => {
+    match line.bare {
+        Bare::Admitted { slot, key, tag } => { put_slot(out, b"admitted", moment, slot, &key, tag) }
+        Bare::Evicted { slot, key, tries } => {
             put_slot(out, b"evicted", moment, slot, &key, u64::from(tries))
         }
-        LogEntry::Kept { slot, key, num } => put_slot(out, b"kept", moment, slot, &key, num),
-        LogEntry::Snapped {
+        Bare::Kept { slot, key, num } => put_slot(out, b"kept", moment, slot, &key, num),
+        Bare::Snapped {
             id,
             point,
             count,
             ..
         } => put_snapshot(out, moment, id, point, count),
-        LogEntry::SnapItem { slot, item } => put_snap_item(out, slot, &item),
-        LogEntry::Stopped => put_count(out, b"stopped", moment),
-        LogEntry::Recovered { counter, count } => put_recovery(out, moment, counter, count),
-        LogEntry::RecItem { item } => put_record(out, &item),
+        Bare::SnapItem { slot, key, num } => {
+            let body = body_at(bytes, line.body);
+            put_snap_item(out, slot, &Record { key, num, body })
+        }
+        Bare::Stopped => put_count(out, b"stopped", moment),
+        Bare::Recovered { counter, count } => put_recovery(out, moment, counter, count),
+        Bare::RecItem { key, num } => {
+            let body = body_at(bytes, line.body);
+            put_record(out, &Record { key, num, body })
+        }
         _ => Ok(()),
     }
 }
 
 /// Writes the line of a placed operation, if its row has all that the line tells.
-fn put_row(out: &mut Vec<u8>, place: &Placed, told: &Told) -> Result<(), Memory>
-    ensures { OnOk result (out.new.items ≡ out.old.items ++ row_text place.now told.now) }
+fn put_row(out: &mut Vec<u8>, bytes: &[u8], place: &Placed, told: &Told) -> Result<(), Memory>
+    ensures { OnOk result (out.new.items ≡ out.old.items ++ row_text bytes.now place.now told.now) }
 {
     let Some(sent) = &told.sent else {
         return Ok(());
@@ -225,50 +235,55 @@ fn put_row(out: &mut Vec<u8>, place: &Placed, told: &Told) -> Result<(), Memory>
     let Some(answered) = told.answered else {
         return Ok(());
     };
-    put_answered(out, place, sent, reply, answered)
+    put_answered(out, bytes, place, sent, reply, answered)
 }
 
-fn put_placed(out: &mut Vec<u8>, table: &[Told], place: &Placed) -> Result<(), Memory>
-    ensures { OnOk result (out.new.items ≡ out.old.items ++ row_text place.now (slice_index_or table.now place.now.op unheard)) }
+fn put_placed(out: &mut Vec<u8>, bytes: &[u8], table: &[Told], place: &Placed) -> Result<(), Memory>
+    ensures { OnOk result (out.new.items ≡ out.old.items ++ row_text bytes.now place.now (slice_index_or table.now place.now.op unheard)) }
 {
     match table.get(place.op as usize) {
-        Some(told) => put_row(out, place, told),
+        Some(told) => put_row(out, bytes, place, told),
         None => Ok(()),
     }
 }
 
-fn put_history(out: &mut Vec<u8>, table: &[Told], places: &[Placed]) -> Result<(), Memory>
-    ensures { OnOk result (out.new.items ≡ out.old.items ++ history_by_rows table.now places.now) }
+fn put_history(
+    out: &mut Vec<u8>,
+    bytes: &[u8],
+    table: &[Told],
+    places: &[Placed],
+) -> Result<(), Memory>
+    ensures { OnOk result (out.new.items ≡ out.old.items ++ history_by_rows bytes.now table.now places.now) }
 {
     put_count(out, b"history", places.len() as u64)?;
     for place in places {
-        put_placed(out, table, place)?;
+        put_placed(out, bytes, table, place)?;
     }
     Ok(())
 }
 
 /// Whether the line is a control entry, and no item of one.
-fn is_control(line: &LogLine) -> bool
-    ensures { result ≡ words.is_control line.now.entry }
+fn is_control(line: &Stored) -> bool
+    ensures { (bytes : List ℕ) → result ≡ stored_control bytes line.now }
 {
-    match line.entry {
-        LogEntry::Admitted { .. }
-        | LogEntry::Evicted { .. }
-        | LogEntry::Kept { .. }
-        | LogEntry::Snapped { .. }
-        | LogEntry::Stopped
-        | LogEntry::Recovered { .. } => true,
+    match line.bare {
+        Bare::Admitted { .. }
+        | Bare::Evicted { .. }
+        | Bare::Kept { .. }
+        | Bare::Snapped { .. }
+        | Bare::Stopped
+        | Bare::Recovered { .. } => true,
         _ => false,
     }
 }
 
-fn put_control(out: &mut Vec<u8>, lines: &[LogLine]) -> Result<(), Memory>
-    ensures { OnOk result (out.new.items ≡ out.old.items ++ words.control_text lines.now) }
+fn put_control(out: &mut Vec<u8>, bytes: &[u8], lines: &[Stored]) -> Result<(), Memory>
+    ensures { OnOk result (out.new.items ≡ out.old.items ++ control_by_stored bytes.now lines.now) }
 {
     let count = lines.iter().filter(|line| is_control(line)).count();
     put_count(out, b"control", count as u64)?;
     for line in lines {
-        put_entry(out, line)?;
+        put_entry(out, bytes, line)?;
     }
     Ok(())
 }
@@ -288,15 +303,15 @@ fn put_map(out: &mut Vec<u8>, records: &[Record]) -> Result<(), Memory>
 pub fn report_text(alloc: Global, log: &Log) -> Result<Vec<u8>, Memory>
     ensures { IfOk result (λ text. words.IsReport (log_view log.now) text.items) }
 {
-    let lines = log.lines();
+    let (lines, bytes) = log.parts();
     let table = gather(alloc, lines)?;
     let places = places_in(alloc, &table, lines)?;
-    let records = last_writes(alloc, &table, &places)?;
+    let records = last_writes(alloc, bytes, &table, &places)?;
     let mut out = Vec::new(alloc);
     put_text(&mut out, b"far 1 report\n")?;
     put_count(&mut out, b"steps", log.steps())?;
-    put_history(&mut out, &table, &places)?;
-    put_control(&mut out, lines)?;
+    put_history(&mut out, bytes, &table, &places)?;
+    put_control(&mut out, bytes, lines)?;
     put_map(&mut out, &records)?;
     put_text(&mut out, b"end\n")?;
     Ok(out)

@@ -400,17 +400,26 @@ fn made_up_log(alloc: Global, words: &Words, first: u64) -> Result<Log, Fail> {
     Ok(log)
 }
 
+fn lines_of(alloc: Global, log: &Log) -> Result<Vec<LogLine>, Fail> {
+    let mut lines = Vec::new(alloc);
+    for place in 0..log.len() {
+        lines.extend_from_slice(&[log.line(place)])?;
+    }
+    Ok(lines)
+}
+
 /// How many places the history has, which is as the definition says, and so is the final map.
 fn agrees(rt: &impl Abort, alloc: Global, words: &Words, log: &Log) -> Result<usize, Fail> {
     let places = history(alloc, log)?;
-    assert!(rt; is_history(log.lines(), &places));
+    let lines = lines_of(alloc, log)?;
+    assert!(rt; is_history(&lines, &places));
     let records = final_map(alloc, log)?;
     for record in &records {
-        assert!(rt; is_last(log.lines(), &places, record));
+        assert!(rt; is_last(&lines, &places, record));
     }
     let mut count = 0usize;
     for on in &words.keys {
-        if is_written(log.lines(), &places, on) {
+        if is_written(&lines, &places, on) {
             count = count.saturating_add(1);
         }
     }

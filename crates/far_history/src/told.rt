@@ -1,19 +1,21 @@
-use far_base::{Body, LogEntry, LogLine, Memory, OpLine};
+use crate::stored::{Bare, Doing, Stored, Stretch};
+use far_base::Memory;
 use std::alloc::Global;
 
 /// When an operation was sent, and what it does.
 #[derive(Clone, Copy)]
 pub(crate) struct Sending {
     pub moment: u64,
-    pub line: OpLine,
+    pub line: Doing,
+    pub body: Stretch,
 }
 
 /// What an operation was answered with.
 #[derive(Clone, Copy)]
 pub(crate) struct Reply {
     pub num: u64,
-    pub body: Body,
     pub near: bool,
+    pub body: Stretch,
 }
 
 /// What a log tells of one operation: the first line of each kind.
@@ -26,26 +28,26 @@ pub(crate) struct Told {
 }
 
 ghost use Rattle.std.specs.Prelude.{◌≡◌, ℕ, ◌+◌, ◌^◌, ◌<◌, ◌≤◌, length, slice_index_or, IfOk};
-ghost use Rattle.far_base.specs.declared.log.LogLine.{LogLine};
-ghost use Rattle.far_history.specs.Told.{op_bound_of, unheard, noted, IsRow};
+ghost use Rattle.far_history.specs.declared.stored.Stored.{Stored};
+ghost use Rattle.far_history.specs.Told.{op_bound_of, unheard, noted, IsTable};
 
 /// One more than the operation that the line names, or 0.
-fn op_bound(line: &LogLine) -> usize
-    ensures value { result ≡ op_bound_of line.now.entry }
+fn op_bound(line: &Stored) -> usize
+    ensures value { result ≡ op_bound_of line.now.bare }
     ensures bound { result ≤ 2 ^ 32 }
 {
-    match line.entry {
-        LogEntry::Sent { op, .. } => op as usize + 1,
-        LogEntry::Numbered { op, .. } => op as usize + 1,
-        LogEntry::Emitted { op, .. } => op as usize + 1,
-        LogEntry::Answered { op } => op as usize + 1,
+    match line.bare {
+        Bare::Sent { op, .. } => op as usize + 1,
+        Bare::Numbered { op, .. } => op as usize + 1,
+        Bare::Emitted { op, .. } => op as usize + 1,
+        Bare::Answered { op } => op as usize + 1,
         _ => 0,
     }
 }
 
 /// One more than the greatest operation that the lines name, or 0.
-fn ops_bound(lines: &[LogLine]) -> usize
-    ensures above { (k : ℕ) (d : LogLine) → k < length lines.now → op_bound_of (slice_index_or lines.now k d).entry ≤ result }
+fn ops_bound(lines: &[Stored]) -> usize
+    ensures above { (k : ℕ) (d : Stored) → k < length lines.now → op_bound_of (slice_index_or lines.now k d).bare ≤ result }
     ensures bound { result ≤ 2 ^ 32 }
 {
     let mut bound = 0;
@@ -56,28 +58,26 @@ fn ops_bound(lines: &[LogLine]) -> usize
 }
 
 /// Puts what the line tells into the table, over what later lines told.
-fn note(table: &mut [Told], line: &LogLine)
-    requires { op_bound_of line.now.entry ≤ length table.old }
+fn note(table: &mut [Told], line: &Stored)
+    requires { op_bound_of line.now.bare ≤ length table.old }
     ensures { table.new ≡ noted line.now table.old }
 {
     let moment = line.moment;
-    match line.entry {
-        LogEntry::Sent { op, line } => table[op as usize].sent = Some(Sending { moment, line }),
-        LogEntry::Numbered { op, num } => table[op as usize].numbered = Some(num),
-        LogEntry::Emitted {
-            op,
-            num,
-            body,
-            near,
-        } => table[op as usize].emitted = Some(Reply { num, body, near }),
-        LogEntry::Answered { op } => table[op as usize].answered = Some(moment),
+    let body = line.body;
+    match line.bare {
+        Bare::Sent { op, line } => table[op as usize].sent = Some(Sending { moment, line, body }),
+        Bare::Numbered { op, num } => table[op as usize].numbered = Some(num),
+        Bare::Emitted { op, num, near } => {
+            table[op as usize].emitted = Some(Reply { num, near, body })
+        }
+        Bare::Answered { op } => table[op as usize].answered = Some(moment),
         _ => {}
     }
 }
 
 /// What the lines tell of each operation, by the operation's number.
-pub(crate) fn gather(alloc: Global, lines: &[LogLine]) -> Result<Vec<Told>, Memory>
-    ensures rows { IfOk result (λ table. (op : ℕ) → IsRow lines.now op (slice_index_or table.items op unheard)) }
+pub(crate) fn gather(alloc: Global, lines: &[Stored]) -> Result<Vec<Told>, Memory>
+    ensures rows { IfOk result (λ table. IsTable lines.now table.items) }
     ensures bound { IfOk result (λ table. length table.items ≤ 2 ^ 32) }
 {
     let nothing = Told {

@@ -1,11 +1,13 @@
 -- Admissions, evictions, snapshots and rounds: each that is under way has its packets on their way.
 use Rattle.far_invariants.specs.Slots.{IsGiven, is_admission_of, admits_under, admission_count}
-use Rattle.std.specs.Prelude.{◌≡◌, ℕ, ◌+◌, ◌<◌, ◌≤◌, max, ◌⊎◌, Bool, true, false, ◌&&◌, not, nat_eq, nat_le, if◌then◌else◌, List, [], length, slice_index_or, Option, None, Some, is_some}
+use Rattle.std.specs.Prelude.{◌≡◌, ℕ, ◌+◌, ◌<◌, ◌≤◌, max, ◌⊎◌, Bool, true, false, ◌&&◌, not, nat_eq, nat_le}
+use Rattle.std.specs.Prelude.{if◌then◌else◌, List, [], length, slice_index_or, Option, None, Some, is_some}
 use Rattle.std.specs.List.{count_by, list_all}
 use Rattle.far_base.specs.PlanView.{PlanView}
 use Rattle.far_base.specs.declared.packet.Message.{Message}
 use Rattle.far_base.specs.declared.packet.Packet.{Packet}
-use Rattle.far_base.specs.declared.packet.Packet.TheVariants.{Admit, AdmitAck, Peek, PeekAns, Remove, RemoveAns, SnapStart, SnapRead, Ask, Told, TopAsk, TopIs, SnapFrom}
+use Rattle.far_base.specs.declared.packet.Packet.TheVariants.{Admit, AdmitAck, Peek, PeekAns, Remove, RemoveAns}
+use Rattle.far_base.specs.declared.packet.Packet.TheVariants.{SnapStart, SnapRead, Ask, Told, TopAsk, TopIs, SnapFrom}
 use Rattle.far_base.specs.declared.party.Party.{Party}
 use Rattle.far_base.specs.declared.party.Party.TheVariants.{Client, Server}
 use Rattle.far_base.specs.declared.slot_state.SlotState.TheVariants.{Free, Admitting, Evicting}

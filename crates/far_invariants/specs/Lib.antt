@@ -21,6 +21,7 @@ pub mod Past
 pub mod Records
 pub mod Recoveries
 pub mod Remembered
+pub mod Removals
 pub mod Restarts
 pub mod Room
 pub mod RoundFlights
@@ -37,4 +38,3 @@ pub mod Snapshots
 pub mod Sound
 pub mod StopNeeds
 pub mod Stops
-pub mod Uncached

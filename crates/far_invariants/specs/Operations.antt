@@ -10,7 +10,8 @@ use Rattle.far_base.specs.declared.log.LogEntry.TheVariants.{Sent, Numbered, Emi
 use Rattle.far_base.specs.declared.log.LogLine.{LogLine}
 use Rattle.far_base.specs.declared.packet.Message.{Message}
 use Rattle.far_base.specs.declared.packet.Packet.{Packet}
-use Rattle.far_base.specs.declared.packet.Packet.TheVariants.{GetReq, WriteReq, GetFwd, WriteFwd, GetRep, WriteRep, GetAns, WriteAns, Admit}
+use Rattle.far_base.specs.declared.packet.Packet.TheVariants.{GetReq, WriteReq, GetFwd, WriteFwd, GetRep, WriteRep}
+use Rattle.far_base.specs.declared.packet.Packet.TheVariants.{GetAns, WriteAns, Admit}
 use Rattle.far_model.specs.Clients.{line_of}
 use Rattle.far_model.specs.Coherent.{Earlier, IsAnswering, IsOwnNumber, ReachesOwnNumber}
 use Rattle.far_model.specs.Log.{is_read}

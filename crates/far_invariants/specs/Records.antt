@@ -4,7 +4,8 @@ use Rattle.std.specs.Prelude.{◌≡◌, ℕ, true, false, List, Option, None, S
 use Rattle.far_base.specs.PlanView.{PlanView}
 use Rattle.far_base.specs.declared.packet.Message.{Message}
 use Rattle.far_base.specs.declared.packet.Packet.{Packet}
-use Rattle.far_base.specs.declared.packet.Packet.TheVariants.{WriteFwd, GetRep, WriteRep, GetAns, WriteAns, PeekAns, RemoveAns, SnapPart, Store, Told}
+use Rattle.far_base.specs.declared.packet.Packet.TheVariants.{WriteFwd, GetRep, WriteRep, GetAns, WriteAns, PeekAns}
+use Rattle.far_base.specs.declared.packet.Packet.TheVariants.{RemoveAns, SnapPart, Store, Told}
 use Rattle.far_base.specs.declared.record.Record.{Record}
 use Rattle.far_model.specs.Clients.{answered_record}
 use Rattle.far_model.specs.Evictions.{Eviction, shown_item}

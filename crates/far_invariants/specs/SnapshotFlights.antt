@@ -1,10 +1,12 @@
 -- What is on its way for a snapshot: its start, its beginning, its reads and its parts.
-use Rattle.std.specs.Prelude.{◌≡◌, ℕ, ◌+◌, ◌<◌, ◌≤◌, ◌⊎◌, Bool, true, false, nat_eq, ◌&&◌, if◌then◌else◌, List, None, Some, is_some}
+use Rattle.std.specs.Prelude.{◌≡◌, ℕ, ◌+◌, ◌<◌, ◌≤◌, ◌⊎◌, Bool, true, false, nat_eq, ◌&&◌, if◌then◌else◌, List, None}
+use Rattle.std.specs.Prelude.{Some, is_some}
 use Rattle.std.specs.List.{count_by}
 use Rattle.far_base.specs.PlanView.{PlanView}
 use Rattle.far_base.specs.declared.packet.Message.{Message}
 use Rattle.far_base.specs.declared.packet.Packet.{Packet}
-use Rattle.far_base.specs.declared.packet.Packet.TheVariants.{SnapStart, SnapBegun, SnapRead, SnapPart, SnapSame, SnapFrom}
+use Rattle.far_base.specs.declared.packet.Packet.TheVariants.{SnapStart, SnapBegun, SnapRead, SnapPart, SnapSame}
+use Rattle.far_base.specs.declared.packet.Packet.TheVariants.{SnapFrom}
 use Rattle.far_invariants.specs.Flights.{IsFor}
 use Rattle.far_model.specs.Members.{Among}
 use Rattle.far_invariants.specs.Past.{SnapshotStart}

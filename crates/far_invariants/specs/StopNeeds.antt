@@ -1,11 +1,13 @@
 -- What the laws of stops and recovery need of the state before an event, and who owes it.
 use Rattle.far_invariants.specs.Numbers.{IsWritten}
-use Rattle.std.specs.Prelude.{◌≡◌, ℕ, ◌<◌, ◌≤◌, ◌⊎◌, Bool, true, nat_eq, nat_lt, not, ◌&&◌, if◌then◌else◌, List, length, slice_get, Option, None, Some, false}
+use Rattle.std.specs.Prelude.{◌≡◌, ℕ, ◌<◌, ◌≤◌, ◌⊎◌, Bool, true, nat_eq, nat_lt, not, ◌&&◌, if◌then◌else◌, List, length}
+use Rattle.std.specs.Prelude.{slice_get, Option, None, Some, false}
 use Rattle.far_base.specs.PlanView.{PlanView}
 use Rattle.far_base.specs.declared.log.LogEntry.TheVariants.{Numbered, Emitted}
 use Rattle.far_base.specs.declared.packet.Message.{Message}
 use Rattle.far_base.specs.declared.packet.Packet.{Packet}
-use Rattle.far_base.specs.declared.packet.Packet.TheVariants.{GetReq, WriteReq, WriteFwd, WriteAns, SnapBegun, SnapPart, SnapSame, Release, PeekAns, RemoveAns}
+use Rattle.far_base.specs.declared.packet.Packet.TheVariants.{GetReq, WriteReq, WriteFwd, WriteAns, SnapBegun, SnapPart}
+use Rattle.far_base.specs.declared.packet.Packet.TheVariants.{SnapSame, Release, PeekAns, RemoveAns}
 use Rattle.far_base.specs.declared.record.Record.{Record}
 use Rattle.far_base.specs.declared.slot_state.Due.TheVariants.{Peeked, Removed}
 use Rattle.far_model.specs.Clients.{line_of}
@@ -13,7 +15,8 @@ use Rattle.far_model.specs.Evictions.{Eviction, waits_for, shown_item}
 use Rattle.far_invariants.specs.Flights.{IsRouted, OneFlightPerOperation}
 use Rattle.far_invariants.specs.Covers.{IsAtServer, Covers, IsInSnapshot, IsAbsorbed, IsKnown}
 use Rattle.far_model.specs.Members.{Among}
-use Rattle.far_model.specs.Snapshots.{Job, SnapshotView, has_begun, has_part, is_whole, completed, view_records, with_part, with_same}
+use Rattle.far_model.specs.Snapshots.{Job, SnapshotView, has_begun, has_part, is_whole, completed, view_records}
+use Rattle.far_model.specs.Snapshots.{with_part, with_same}
 use Rattle.far_model.specs.State.{State, client_at, records_at, line_at}
 use Rattle.far_model.specs.Controller.{ControllerState}
 

@@ -1,6 +1,7 @@
 -- What holds across stops of the switch: what outlives a stop, and what a round of recovery restores.
 use Rattle.far_invariants.specs.Numbers.{IsWritten, NumbersDiffer, NumbersArrive}
-use Rattle.std.specs.Prelude.{◌≡◌, ◌≢◌, ℕ, suc, ◌+◌, ◌<◌, ◌≤◌, ◌⊎◌, max, Bool, true, false, nat_eq, nat_le, ◌&&◌, List, [], length, slice_index_or, None, Some, if◌then◌else◌, is_some, Option}
+use Rattle.std.specs.Prelude.{◌≡◌, ◌≢◌, ℕ, suc, ◌+◌, ◌<◌, ◌≤◌, ◌⊎◌, max, Bool, true, false, nat_eq, nat_le, ◌&&◌, List}
+use Rattle.std.specs.Prelude.{[], length, slice_index_or, None, Some, if◌then◌else◌, is_some, Option}
 use Rattle.std.specs.List.{count_by}
 use Rattle.far_base.specs.PlanView.{PlanView}
 use Rattle.far_base.specs.declared.log.LogEntry.TheVariants.{Numbered}
@@ -15,7 +16,8 @@ use Rattle.far_model.specs.Clients.{line_of}
 use Rattle.far_model.specs.Controller.{ControllerState}
 use Rattle.far_model.specs.Events.{is_switch}
 use Rattle.far_model.specs.Evictions.{state_at}
-use Rattle.far_invariants.specs.Covers.{IsAtServer, Covers, IsInSnapshot, IsPreserved, IsKeptInFlight, IsAnsweredNear, IsAbsorbed}
+use Rattle.far_invariants.specs.Covers.{IsAtServer, Covers, IsInSnapshot, IsPreserved, IsKeptInFlight, IsAnsweredNear}
+use Rattle.far_invariants.specs.Covers.{IsAbsorbed}
 use Rattle.far_model.specs.Members.{Among, Pairs}
 use Rattle.far_model.specs.Rounds.{Round, Telling, asks_tops, no_telling, telling_at}
 use Rattle.far_model.specs.Servers.{top_of}

@@ -1,19 +1,27 @@
 -- The rules of the controller.
-use Rattle.std.specs.Prelude.{ℕ, zero, suc, ◌+◌, ◌-◌, Bool, true, false, ◌&&◌, not, nat_eq, nat_le, nat_lt, if◌then◌else◌, List, [], ◌∷◌, ◌++◌, length, replicate, slice_get, slice_index_or, slice_set, is_some, drop, Option, None, Some}
+use Rattle.std.specs.Prelude.{ℕ, zero, suc, ◌+◌, ◌-◌, Bool, true, false, ◌&&◌, not, nat_eq, nat_le, nat_lt}
+use Rattle.std.specs.Prelude.{if◌then◌else◌, List, [], ◌∷◌, ◌++◌, length, replicate, slice_get, slice_index_or}
+use Rattle.std.specs.Prelude.{slice_set, is_some, drop, Option, None, Some}
 use Rattle.far_base.specs.declared.log.LogEntry.TheVariants.{Admitted, Evicted, Kept as KeptNote, Snapped}
 use Rattle.far_base.specs.declared.packet.Out.{Out}
 use Rattle.far_base.specs.declared.packet.Packet.{Packet}
-use Rattle.far_base.specs.declared.packet.Packet.TheVariants.{Hot, Admit, AdmitAck, PeekAns, RemoveAns, SnapStart, SnapBegun, SnapPart, Store, Stored, Release, Ask, Told, TopAsk, TopIs, SnapSame, SnapFrom}
+use Rattle.far_base.specs.declared.packet.Packet.TheVariants.{Hot, Admit, AdmitAck, PeekAns, RemoveAns, SnapStart}
+use Rattle.far_base.specs.declared.packet.Packet.TheVariants.{SnapBegun, SnapPart, Store, Stored, Release, Ask, Told}
+use Rattle.far_base.specs.declared.packet.Packet.TheVariants.{TopAsk, TopIs, SnapSame, SnapFrom}
 use Rattle.far_base.specs.declared.party.Party.TheVariants.{Client, Switch, Server}
 use Rattle.far_base.specs.declared.plan.Config.{Config}
 use Rattle.far_base.specs.declared.record.Record.{Record}
 use Rattle.far_base.specs.declared.slot_state.SlotState.{SlotState}
 use Rattle.far_base.specs.declared.slot_state.SlotState.TheVariants.{Free, Admitting, Held, Evicting}
 use Rattle.far_base.specs.declared.slot_state.Due.TheVariants.{Peeked, Removed}
-use Rattle.far_model.specs.Evictions.{Eviction, Next, Send, Store as StoreNext, Done, Kept, is_free, has_key, holds_key, is_admitting, first_place, state_at, key_in, tag_in, victim, hand_after, begins_eviction, peek_of, after_peek, after_store, after_removal, waits_for, waits_job, storing, removing}
+use Rattle.far_model.specs.Evictions.{Eviction, Next, Send, Store as StoreNext, Done, Kept, is_free, has_key, holds_key}
+use Rattle.far_model.specs.Evictions.{is_admitting, first_place, state_at, key_in, tag_in, victim, hand_after}
+use Rattle.far_model.specs.Evictions.{begins_eviction, peek_of, after_peek, after_store, after_removal, waits_for}
+use Rattle.far_model.specs.Evictions.{waits_job, storing, removing}
 use Rattle.far_model.specs.Parties.{Turn, idle, to_party}
 use Rattle.far_model.specs.Rounds.{Round, new_round, has_told, tells_one, telling_at, asks_tops, ready_counter}
-use Rattle.far_model.specs.Snapshots.{Job, SnapshotView, no_snapshot, new_job, has_part, has_begun, is_whole, completed, part_reads, view_items, view_records, with_part, with_same}
+use Rattle.far_model.specs.Snapshots.{Job, SnapshotView, no_snapshot, new_job, has_part, has_begun, is_whole, completed}
+use Rattle.far_model.specs.Snapshots.{part_reads, view_items, view_records, with_part, with_same}
 use Rattle.far_model.specs.View.{server_of}
 
 pub record ControllerState : Type 0 where

@@ -1,5 +1,6 @@
 -- The events: when each can happen, and what it does.
-use Rattle.std.specs.Prelude.{ℕ, suc, ◌+◌, Bool, true, false, ◌&&◌, ◌||◌, not, nat_eq, nat_le, if◌then◌else◌, List, [], ◌∷◌, ◌++◌, length, map, remove, slice_get, slice_set, is_some, Option, None, Some}
+use Rattle.std.specs.Prelude.{ℕ, suc, ◌+◌, Bool, true, false, ◌&&◌, ◌||◌, not, nat_eq, nat_le, if◌then◌else◌, List, []}
+use Rattle.std.specs.Prelude.{◌∷◌, ◌++◌, length, map, remove, slice_get, slice_set, is_some, Option, None, Some}
 use Rattle.std.specs.List.{list_any}
 use Rattle.far_base.specs.PlanView.{PlanView}
 use Rattle.far_base.specs.Limits.{due_number}
@@ -14,10 +15,12 @@ use Rattle.far_base.specs.declared.party.Party.{Party}
 use Rattle.far_base.specs.declared.party.Party.TheVariants.{Client, Switch, Server, Controller}
 use Rattle.far_base.specs.declared.plan.OpLine.{OpLine}
 use Rattle.far_base.specs.declared.plan.Order.{Order}
-use Rattle.far_base.specs.declared.plan.Order.TheVariants.{Admit as AdmitOrder, Evict as EvictOrder, Snap as SnapOrder, Stop as StopOrder, StopAt as StopAtOrder}
+use Rattle.far_base.specs.declared.plan.Order.TheVariants.{Admit as AdmitOrder, Evict as EvictOrder, Snap as SnapOrder}
+use Rattle.far_base.specs.declared.plan.Order.TheVariants.{Stop as StopOrder, StopAt as StopAtOrder}
 use Rattle.far_base.specs.declared.record.Record.{Record}
 use Rattle.far_model.specs.Clients.{ClientState, line_of, request, client_takes}
-use Rattle.far_model.specs.Controller.{ControllerState, wanted, tick, evict_key, start_snapshot, start_recovery, ready, restarted, controller_takes}
+use Rattle.far_model.specs.Controller.{ControllerState, wanted, tick, evict_key, start_snapshot, start_recovery, ready}
+use Rattle.far_model.specs.Controller.{restarted, controller_takes}
 use Rattle.far_model.specs.KeyedRecords.{by_key}
 use Rattle.far_model.specs.Members.{is_empty}
 use Rattle.far_model.specs.Parties.{Turn, idle, to_party, messages_from}

@@ -1,15 +1,20 @@
 -- One pass of a packet through the switch: the table of cases.
-use Rattle.std.specs.Prelude.{ℕ, ◌+◌, ◌%◌, max, Bool, true, false, not, ◌&&◌, nat_lt, nat_le, nat_eq, if◌then◌else◌, List, [], ◌∷◌, ◌++◌, slice_set, slice_index_or, Option, None, Some}
+use Rattle.std.specs.Prelude.{ℕ, ◌+◌, ◌%◌, max, Bool, true, false, not, ◌&&◌, nat_lt, nat_le, nat_eq, if◌then◌else◌}
+use Rattle.std.specs.Prelude.{List, [], ◌∷◌, ◌++◌, slice_set, slice_index_or, Option, None, Some}
 use Rattle.far_base.specs.Key.{weighted_sum}
 use Rattle.far_base.specs.declared.log.LogEntry.{LogEntry}
 use Rattle.far_base.specs.declared.log.LogEntry.TheVariants.{Numbered, Emitted}
 use Rattle.far_base.specs.declared.packet.Out.{Out}
 use Rattle.far_base.specs.declared.packet.Packet.{Packet}
-use Rattle.far_base.specs.declared.packet.Packet.TheVariants.{GetReq, WriteReq, GetFwd, WriteFwd, GetRep, WriteRep, GetAns, WriteAns, Hot, Admit, AdmitAck, Peek, PeekAns, Remove, RemoveAns, SnapStart, SnapBegun, SnapRead, SnapPart, SnapSame, SnapFrom}
+use Rattle.far_base.specs.declared.packet.Packet.TheVariants.{GetReq, WriteReq, GetFwd, WriteFwd, GetRep, WriteRep}
+use Rattle.far_base.specs.declared.packet.Packet.TheVariants.{GetAns, WriteAns, Hot, Admit, AdmitAck, Peek, PeekAns}
+use Rattle.far_base.specs.declared.packet.Packet.TheVariants.{Remove, RemoveAns, SnapStart, SnapBegun, SnapRead}
+use Rattle.far_base.specs.declared.packet.Packet.TheVariants.{SnapPart, SnapSame, SnapFrom}
 use Rattle.far_base.specs.declared.party.Party.{Party}
 use Rattle.far_base.specs.declared.record.Record.{Record}
 use Rattle.far_base.specs.declared.party.Party.TheVariants.{Client, Server, Controller}
-use Rattle.far_model.specs.View.{SlotView, SwitchView, HotCell, HOT_CELLS, slot_at, entry_place, server_of, bind_key, held_record, shown_body, mark_of, same_mark, taken_at, shown_at, is_taken, empty_slot}
+use Rattle.far_model.specs.View.{SlotView, SwitchView, HotCell, HOT_CELLS, slot_at, entry_place, server_of, bind_key}
+use Rattle.far_model.specs.View.{held_record, shown_body, mark_of, same_mark, taken_at, shown_at, is_taken, empty_slot}
 
 -- what a pass leaves: the view, and at most two packets
 pub record Passed : Type 0 where

@@ -1,9 +1,14 @@
 -- How many packets of each kind have come to a running switch since the opening.
 use Rattle.std.specs.Prelude.{ℕ, suc, List, replicate, slice_index_or, slice_set, Option, None, Some}
 use Rattle.far_base.specs.declared.packet.Packet.{Packet}
-use Rattle.far_base.specs.declared.packet.Packet.TheVariants.{GetReq, WriteReq, GetRep, WriteRep, Admit, Peek, Remove, SnapStart, SnapRead, SnapFrom}
+use Rattle.far_base.specs.declared.packet.Packet.TheVariants.{GetReq, WriteReq, GetRep, WriteRep, Admit, Peek, Remove}
+use Rattle.far_base.specs.declared.packet.Packet.TheVariants.{SnapStart, SnapRead, SnapFrom}
 use Rattle.far_base.specs.declared.plan.PassKind.{PassKind}
-use Rattle.far_base.specs.declared.plan.PassKind.TheVariants.{GetReq as GetReqPass, WriteReq as WriteReqPass, GetRep as GetRepPass, WriteRep as WriteRepPass, Admit as AdmitPass, Peek as PeekPass, Remove as RemovePass, SnapStart as SnapStartPass, SnapRead as SnapReadPass}
+use Rattle.far_base.specs.declared.plan.PassKind.TheVariants.{GetReq as GetReqPass, WriteReq as WriteReqPass}
+use Rattle.far_base.specs.declared.plan.PassKind.TheVariants.{GetRep as GetRepPass, WriteRep as WriteRepPass}
+use Rattle.far_base.specs.declared.plan.PassKind.TheVariants.{Admit as AdmitPass, Peek as PeekPass}
+use Rattle.far_base.specs.declared.plan.PassKind.TheVariants.{Remove as RemovePass, SnapStart as SnapStartPass}
+use Rattle.far_base.specs.declared.plan.PassKind.TheVariants.{SnapRead as SnapReadPass}
 
 abbrev pub PASS_KINDS : ℕ
 PASS_KINDS = 9

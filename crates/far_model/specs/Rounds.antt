@@ -1,5 +1,6 @@
 -- One round of recovery: what clients have told, stores under way, and the servers' greatest numbers.
-use Rattle.std.specs.Prelude.{ℕ, ◌+◌, max, Bool, false, ◌&&◌, not, nat_eq, nat_le, if◌then◌else◌, List, [], ◌∷◌, replicate, slice_index_or, is_some, Option, None, Some}
+use Rattle.std.specs.Prelude.{ℕ, ◌+◌, max, Bool, false, ◌&&◌, not, nat_eq, nat_le, if◌then◌else◌, List, [], ◌∷◌}
+use Rattle.std.specs.Prelude.{replicate, slice_index_or, is_some, Option, None, Some}
 use Rattle.std.specs.List.{list_all}
 
 -- what a client has told: how many records it said it has, and how many messages came

@@ -2,7 +2,8 @@
 use Rattle.far_base.specs.declared.record.Versioned.{Versioned}
 use Rattle.std.specs.Prelude.{ℕ, max, nat_lt, if◌then◌else◌, List, [], ◌∷◌, Option, None, Some}
 use Rattle.far_base.specs.declared.packet.Packet.{Packet}
-use Rattle.far_base.specs.declared.packet.Packet.TheVariants.{GetFwd, WriteFwd, GetRep, WriteRep, Store, Stored, TopAsk, TopIs}
+use Rattle.far_base.specs.declared.packet.Packet.TheVariants.{GetFwd, WriteFwd, GetRep, WriteRep, Store, Stored, TopAsk}
+use Rattle.far_base.specs.declared.packet.Packet.TheVariants.{TopIs}
 use Rattle.far_base.specs.declared.record.Record.{Record}
 use Rattle.far_model.specs.KeyedRecords.{found, put_record}
 

@@ -1,5 +1,6 @@
 -- A snapshot while its parts are gathered, and a completed one.
-use Rattle.std.specs.Prelude.{ℕ, suc, ◌+◌, Bool, ◌&&◌, if◌then◌else◌, List, [], ◌∷◌, map, replicate, slice_index_or, slice_set, is_some, Option, None, Some}
+use Rattle.std.specs.Prelude.{ℕ, suc, ◌+◌, Bool, ◌&&◌, if◌then◌else◌, List, [], ◌∷◌, map, replicate, slice_index_or}
+use Rattle.std.specs.Prelude.{slice_set, is_some, Option, None, Some}
 use Rattle.std.specs.List.{list_all}
 use Rattle.far_base.specs.declared.log.LogEntry.{LogEntry}
 use Rattle.far_base.specs.declared.log.LogEntry.TheVariants.{SnapItem}

@@ -5,16 +5,20 @@
 mod clean;
 mod faults;
 mod fill;
+mod gate;
 mod keeper;
 mod listed;
+mod pieces;
 mod reading;
 mod sink;
 mod source;
 mod standard;
 
 pub use clean::{CleanSink, CleanSource};
+pub use gate::{Gate, NoGate};
 pub use keeper::{Keeper, KeeperFault};
 pub use listed::{MemSink, MemSource};
+pub use pieces::PieceSource;
 pub use reading::{ReadStop, read_all};
 pub use sink::{Sink, SinkFault};
 pub use source::{Failed, Source};

@@ -132,3 +132,21 @@ fn a_clean_sink_keeps_what_is_written(rt: HostRuntime) -> Result<(), Fail> {
     assert_eq!(rt; sink.faults(), 0);
     Ok(())
 }
+
+#[test]
+fn a_source_in_pieces_gives_so_many_at_once(rt: HostRuntime) -> Result<(), Fail> {
+    let alloc = rt.alloc();
+    let mut source = PieceSource::new(five(alloc)?, 2);
+    let mut buf = [0; 4];
+    assert!(rt; source.read(&mut buf) == Ok(2));
+    assert!(rt; buf == [1, 2, 0, 0]);
+    assert!(rt; source.read(&mut buf[..1]) == Ok(1));
+    assert!(rt; source.read(&mut buf) == Ok(2));
+    assert!(rt; buf == [4, 5, 0, 0]);
+    assert!(rt; source.read(&mut buf) == Ok(0));
+    assert_eq!(rt; source.faults(), 0);
+    let mut source = PieceSource::new(five(alloc)?, 3);
+    let bytes = read_all(alloc, &mut source, 5)?;
+    assert!(rt; bytes.as_slice() == [1, 2, 3, 4, 5].as_slice());
+    Ok(())
+}

@@ -1,20 +1,18 @@
 -- A world that is run by picks goes on by the events that they choose.
-use Rattle.std.proofs.Common.{◌≡◌, ℕ, zero, suc, ◌+◌, ◌<◌, ◌≤◌, ◌%◌, Bool, true, false, List, [], ◌∷◌, ◌++◌, length, get_or, refl, sym, ap, ◌∙◌, subst, cond, Some, None, arith, append_assoc, length-append}
-use Rattle.std.specs.Prelude.{Option, is_some, ◌^◌}
+use Rattle.std.proofs.Common.{◌≡◌, ℕ, zero, suc, ◌+◌, ◌<◌, ◌≤◌, ◌%◌, Bool, true, false, List, [], ◌∷◌, ◌++◌, length, get_or, refl, sym, ap, ◌∙◌, subst, cond, arith, append_assoc, length-append}
+use Rattle.std.specs.Prelude.{is_some, ◌^◌}
 use Rattle.std.proofs.lemmas.List.{append-nil}
 use Rattle.far_base.specs.PlanView.{PlanView}
 use Rattle.far_base.specs.declared.event.Event.{Event}
 use Rattle.far_base.specs.declared.event.Event.TheVariants.{Send, Deliver, Tick, Recover, Restart, Order}
 use Rattle.far_base.specs.declared.packet.Message.{Message}
-use Rattle.far_model.proofs.Members.{among_append}
 use Rattle.far_model.proofs.Runs.{run_append}
 use Rattle.far_model.specs.Clients.{ClientState}
 use Rattle.far_model.specs.Controller.{tick, ready}
 use Rattle.far_model.specs.Events.{can_deliver, can_recover, can_send, choice_if, choices, deliver_choices, happens, is_order_enabled, send_choices}
-use Rattle.far_model.specs.Members.{Among, Each}
-use Rattle.far_model.specs.Runs.{IsPickedFrom, choice, is_quiet, next_event, picks_after, run}
+use Rattle.far_model.specs.Members.{Each}
+use Rattle.far_model.specs.Runs.{IsPickedFrom, choice, is_quiet, next_event, picks_after}
 use Rattle.far_model.specs.State.{State}
-use Rattle.far_model.specs.Work.{work_left}
 use Rattle.far_runner.specs.Picked.{IsAt, is_order, pick_of}
 use Rattle.workload.specs.Picks.{Picking}
 use Rattle.far_runner.specs.Pumped.{ArePicked, HasGone, HasPumped, HasPumpedSome}

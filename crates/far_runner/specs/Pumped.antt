@@ -1,8 +1,11 @@
 -- How far a world was run by the picks of a workload.
-use Rattle.std.specs.Prelude.{◌≡◌, ℕ, ◌+◌, ◌≤◌, false, List, [], ◌∷◌, ◌++◌, length, is_some}
+use Rattle.std.specs.Prelude.{◌≡◌, ◌≢◌, ℕ, ◌+◌, ◌≤◌, false, List, [], ◌∷◌, ◌++◌, length, is_some}
 use Rattle.far_base.specs.PlanView.{PlanView}
 use Rattle.far_base.specs.declared.event.Event.{Event}
+use Rattle.far_base.specs.declared.event.Event.TheVariants.{Recover}
 use Rattle.far_model.specs.Events.{happens}
+use Rattle.far_model.specs.Kept.{kept_records}
+use Rattle.far_model.specs.Members.{Each}
 use Rattle.far_model.specs.Runs.{IsPickedFrom, is_quiet, next_event, picks_after, run}
 use Rattle.far_model.specs.State.{State}
 use Rattle.far_model.specs.Work.{work_left}
@@ -37,3 +40,20 @@ pub record HasPumpedSome (work : WorkView) (old new : Ran) : Type 0 where
   pub made : List Event
   pub gone : HasGone old new made
   pub picked : Tells old.keeper.records → ArePicked old.plan (pick_of work) 0 old.state made
+
+-- the last of the events begins a recovery, and none before it does
+pub record IsFirstRecovery (made : List Event) : Type 0 where
+  pub before : List Event
+  pub whole : made ≡ before ++ Recover ∷ []
+  pub first : Each (λ (e : Event). e ≢ Recover) before
+
+-- it was run up to and with the first beginning of a recovery: over a keeper that tells its records by exactly the
+-- events that the picks choose, and then what is kept is the same as just before the last of them
+pub record HasPumpedToRecover (work : WorkView) (old new : Ran) (count : ℕ) : Type 0 where
+  pub made : List Event
+  pub gone : HasGone old new made
+  pub count_is : length made ≡ count
+  pub recovery : IsFirstRecovery made
+  pub picked : Tells old.keeper.records → ArePicked old.plan (pick_of work) 0 old.state made
+  pub kept : Tells old.keeper.records
+      → kept_records new.state ≡ kept_records (run old.plan old.state recovery.before)

@@ -22,7 +22,7 @@ fn is_an_order(event: Event) -> bool
 }
 
 /// The pick after an event: an order uses none.
-fn pick_after(picker: &mut Picker, load: &Workload, event: Event, pick: u64) -> u64
+pub(crate) fn pick_after(picker: &mut Picker, load: &Workload, event: Event, pick: u64) -> u64
     ensures pick { (n : ℕ) → IsAt load.now (n + 1) picker.old → pick ≡ pick_of load.now n → result ≡ pick_of load.now (if is_order event then n else n + 1) }
     ensures at { (n : ℕ) → IsAt load.now (n + 1) picker.old → IsAt load.now ((if is_order event then n else n + 1) + 1) picker.new }
 {
@@ -32,14 +32,13 @@ fn pick_after(picker: &mut Picker, load: &Workload, event: Event, pick: u64) -> 
     picker.next(load)
 }
 
-/// Steps the world of the workload by its picks until no event can happen, which is where it is finished, and answers
+/// Steps the world by the picks of the workload, whose plan may be another, until no event can happen, which is where it is finished, and answers
 /// how many steps were made. `KeeperFailed` only where the keeper's count of faults rose in this call. After an error
 /// the world is as after the steps that were made, which are the first of those that the picks choose.
 pub fn pump<S: Switch + Drop, K: Keeper + Drop>(
     world: &mut World<S, K>,
     load: &Workload,
 ) -> Result<u64, StepFault>
-    requires { world.old.plan ≡ load.now.plan }
     ensures pumped { IfOk result (λ count. HasPumped load.now world.old world.new count) }
     ensures finished { OnOk result (runs.is_finished world.new.plan world.new.state ≡ true) }
     ensures some { OnErr result (HasPumpedSome load.now world.old world.new) }

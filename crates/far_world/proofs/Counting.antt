@@ -145,6 +145,20 @@ pub counted : (s : State) (seats : List SeatView) (sends delivers tick_one recov
     → sends + delivers + tick_one + recover_one + restart_one ≡ length (choices s)
 counted s seats a b t r u same sends delivers ticks recovers restarts = rw (senders_are s.clients seats a same sends, delivers, ticks, recovers, restarts) (sym (length_choices s))
 
+some_in : {X : Type 0} → (xs : List X) → is_empty xs ≡ false → 0 < length xs
+some_in [] h = absurd cc
+some_in (x ∷ xs) h = omega arith
+
+not_empty : {X : Type 0} → (xs : List X) → 0 < length xs → is_empty xs ≡ false
+not_empty [] h = absurd (omega arith)
+not_empty (x ∷ xs) h = refl
+
+-- a message that comes to a running switch or to another can be delivered
+pub some_choice : (s : State) → s.running ≡ true → is_empty s.bag ≡ false → is_empty (choices s) ≡ false
+some_choice s r b =
+    let d : count_by (can_deliver s.running) s.bag ≡ length s.bag = ap (λ (x : Bool). count_by (can_deliver x) s.bag) r ∙ all_deliverable s.bag in
+    not_empty (choices s) (omega (arith, length_choices s, d, some_in s.bag b))
+
 keep : {A : Type 0} → (xs ys : List A) (k : ℕ) (a : A) → slice_get xs k ≡ Some a → slice_get (xs ++ ys) k ≡ Some a
 keep [] ys k a h = absurd cc
 keep (x ∷ xs) ys zero a h = h

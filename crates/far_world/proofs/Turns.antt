@@ -92,11 +92,12 @@ seat_is ops seats c seat e less seated = rw e (seated_at ops seats c seat less s
 pub own_seat : (ops : List OpLine) (seats : List SeatView) (c : ℕ) (seat : SeatView) → seat ≡ get_or seats c seat → c < length seats → AreSeated ops seats → IsSeated ops seat.number seat
 own_seat ops seats c seat e less seated = let h = seat_is ops seats c seat e less seated in subst (λ (n : ℕ). IsSeated ops n seat) (sym h.number) h
 
-pub fit_set : (plan : PlanView) (seats : List SeatView) (controller : ControllerView) (passes : List ℕ) (c : ℕ) (seat new : SeatView) → seat ≡ get_or seats c seat → c < length seats
-    → IsFit plan seats controller passes → IsSeated plan.ops seat.number new → IsFit plan (set seats c new) controller passes
-fit_set plan seats controller passes c seat new e less fit own = record {
+pub fit_set : (plan : PlanView) (seats : List SeatView) (controller : ControllerView) (can_tick : Bool) (passes : List ℕ) (c : ℕ) (seat new : SeatView) → seat ≡ get_or seats c seat → c < length seats
+    → IsFit plan seats controller can_tick passes → IsSeated plan.ops seat.number new → IsFit plan (set seats c new) controller can_tick passes
+fit_set plan seats controller can_tick passes c seat new e less fit own = record {
   seated = seated_set plan.ops seats c new less fit.seated (let h = seat_is plan.ops seats c seat e less fit.seated in subst (λ (n : ℕ). IsSeated plan.ops n new) h.number own);
   config = fit.config;
+  ticks = fit.ticks;
   counts = fit.counts;
 }
 

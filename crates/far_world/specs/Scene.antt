@@ -4,6 +4,7 @@ use Rattle.far_base.specs.PlanView.{PlanView}
 use Rattle.far_base.specs.declared.packet.Message.{Message}
 use Rattle.far_base.specs.declared.record.Record.{Record}
 use Rattle.far_history.specs.RoomyLog.{RoomyLog}
+use Rattle.far_model.specs.Controller.{tick}
 use Rattle.far_model.specs.Passes.{PASS_KINDS}
 use Rattle.far_model.specs.State.{State}
 use Rattle.far_model.specs.View.{SwitchView}
@@ -68,9 +69,11 @@ scene_of plan switch running seats controller bag passes done log keeper = recor
   keeper = keeper;
 }
 
--- the clients and the controller are those of the plan
-pub record IsFit (plan : PlanView) (seats : List SeatView) (controller : ControllerView)
+-- the clients and the controller are those of the plan, and it is known whether the controller has something to do for
+-- its first want
+pub record IsFit (plan : PlanView) (seats : List SeatView) (controller : ControllerView) (can_tick : Bool)
     (passes : List ℕ) : Type 0 where
   pub seated : AreSeated plan.ops seats
   pub config : controller.config ≡ plan.config
+  pub ticks : can_tick ≡ is_some (tick controller.state)
   pub counts : length passes ≡ PASS_KINDS

@@ -21,12 +21,13 @@ impl Model for Bag {
 }
 
 ghost use Rattle.std.specs.Prelude.{◌≡◌, ◌+◌, ◌-◌, ◌^◌, ◌<◌, ◌≤◌, ◌++◌, ◌&&◌, not, [], ◌∷◌, length, remove, take};
-ghost use Rattle.std.specs.Prelude.{slice_get, Some, OnOk};
+ghost use Rattle.std.specs.Prelude.{slice_get, slice_index_or, Some, OnOk};
 ghost use Rattle.std.specs.List.{count_by, list_any};
 ghost use Rattle.far_base.specs.declared.packet.Message.{Message};
 ghost use Rattle.far_model.specs.Events.{can_deliver, is_switch};
 ghost use Rattle.far_model.specs.Parties.{messages_from};
 ghost use Rattle.far_model.specs.Members.{is_empty};
+ghost use Rattle.far_world.specs.Choices.{nothing_sent};
 
 impl Bag {
     /// No messages.
@@ -76,11 +77,23 @@ impl Bag {
         requires { place < length self.now.messages }
         ensures { slice_get self.now.messages place ≡ Some result }
     {
-        let (from, to, wire) = self.wires.get(place);
+        let (from, to, wire) = self.wires.at(place);
         match decode(wire.bytes()) {
-            Ok(packet) => Message { from, to, packet },
+            Ok(packet) => Message {
+                from: *from,
+                to: *to,
+                packet,
+            },
             Err(_) => unreachable!(),
         }
+    }
+
+    /// To whom the message at the place goes.
+    pub(crate) fn addressee(&self, place: u32) -> Party
+        requires { place < length self.now.messages }
+        ensures { result ≡ (slice_index_or self.now.messages place nothing_sent).to }
+    {
+        self.wires.at(place).1
     }
 
     /// Takes the message at the place out. The later ones move down, and no room is lost.
@@ -90,7 +103,7 @@ impl Bag {
         ensures messages { self.new.messages ≡ remove self.old.messages place }
         ensures room { self.old.room ≤ self.new.room }
     {
-        let _taken = self.wires.take(place);
+        self.wires.remove(place);
     }
 
     /// Whether the switch sent none of the messages.

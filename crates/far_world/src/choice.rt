@@ -1,10 +1,11 @@
-ghost use Rattle.std.specs.Prelude.{◌≡◌, ◌+◌, ◌<◌, ◌≤◌, ◌^◌, ◌++◌, length, false, true, Some, is_some, slice_get};
+ghost use Rattle.std.specs.Prelude.{◌≡◌, ◌+◌, ◌<◌, ◌≤◌, ◌^◌, ◌++◌, length, false, true, Some, is_some, slice_get, not};
 ghost use Rattle.std.specs.Prelude.{slice_index_or, nat_eq, ◌&&◌, if◌then◌else◌};
 ghost use Rattle.std.specs.List.{count_by, list_all};
 ghost use Rattle.far_base.specs.Limits.{IsPlan, due_number};
 ghost use Rattle.far_base.specs.declared.event.Event.{Event};
 ghost use Rattle.far_base.specs.declared.plan.TheConstants.{CLIENT_LIMIT};
 ghost use Rattle.far_model.specs.Events as events;
+ghost use Rattle.far_model.specs.Members.{is_empty};
 ghost use Rattle.far_model.specs.Passes as counts;
 ghost use Rattle.far_model.specs.Runs as runs;
 ghost use Rattle.far_world.specs.Choices.{controller_choices, is_idle, nothing_sent, seat_can_send, seat_is_done};
@@ -56,7 +57,7 @@ fn can_deliver(bag: &Bag, running: bool, place: u32) -> bool
     requires { place < length bag.now.messages }
     ensures { result ≡ events.can_deliver running (slice_index_or bag.now.messages place nothing_sent) }
 {
-    running || bag.at(place).to != Party::Switch
+    running || bag.addressee(place) != Party::Switch
 }
 
 /// How many messages can be delivered: all to a running switch, and those to others.
@@ -187,9 +188,21 @@ impl<S: Switch + Drop, K: Keeper + Drop> Parties<S, K> {
     {
         count_senders(&self.clients)
             + count_deliverable(&self.bag, self.running)
-            + one_if(self.controller.tick_ready())
+            + one_if(self.can_tick)
             + one_if(self.can_recover())
             + one_if(self.controller.ready().is_some())
+    }
+
+    /// Whether an event other than an order can happen.
+    fn has_choice(&self) -> bool
+        requires clients { length self.now.state.clients < 2 ^ 16 }
+        requires few { length self.now.state.bag < 2 ^ 28 }
+        ensures { result ≡ not (is_empty (events.choices self.now.state)) }
+    {
+        if self.running && !self.bag.is_empty() {
+            return true;
+        }
+        self.count_choices() != 0
     }
 
     /// The event other than an order at this place among those that can happen, counted from 0.
@@ -208,7 +221,7 @@ impl<S: Switch + Drop, K: Keeper + Drop> Parties<S, K> {
             return Event::Deliver(deliverable_at(&self.bag, self.running, place));
         }
         controller_event(
-            self.controller.tick_ready(),
+            self.can_tick,
             self.can_recover(),
             self.controller.ready().is_some(),
             place - deliverable,
@@ -251,7 +264,7 @@ impl<S: Switch + Drop, K: Keeper + Drop> Parties<S, K> {
             return false;
         };
         self.is_possible(order)
-            && (due_number_of(order) <= self.counted_for(order) || self.count_choices() == 0)
+            && (due_number_of(order) <= self.counted_for(order) || !self.has_choice())
     }
 
     /// Whether no event can happen.
@@ -260,7 +273,7 @@ impl<S: Switch + Drop, K: Keeper + Drop> Parties<S, K> {
         requires few { length self.now.state.bag < 2 ^ 28 }
         ensures { result ≡ runs.is_quiet self.now.plan self.now.state }
     {
-        self.count_choices() == 0 && !self.is_order_enabled()
+        !self.has_choice() && !self.is_order_enabled()
     }
 
     /// How many events can happen; an enabled order counts too.

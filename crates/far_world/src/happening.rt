@@ -155,12 +155,13 @@ impl<S: Switch + Drop, K: Keeper + Drop> Parties<S, K> {
         ensures cause { IsErrOf result StepFault.KeeperFailed → Rose self.old.keeper.faults self.new.keeper.faults }
     {
         let message = self.bag.at(place);
-        let packet = message.packet;
         match message.to {
-            Party::Server(number) => self.deliver_to_server(place, number, &packet),
-            Party::Client(number) => { self.deliver_calmly(place, Party::Client(number), &packet) }
-            Party::Switch => self.deliver_calmly(place, Party::Switch, &packet),
-            Party::Controller => self.deliver_calmly(place, Party::Controller, &packet),
+            Party::Server(number) => self.deliver_to_server(place, number, &message.packet),
+            Party::Client(number) => {
+                self.deliver_calmly(place, Party::Client(number), &message.packet)
+            }
+            Party::Switch => self.deliver_calmly(place, Party::Switch, &message.packet),
+            Party::Controller => self.deliver_calmly(place, Party::Controller, &message.packet),
         }
     }
 

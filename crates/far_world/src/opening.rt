@@ -1,4 +1,5 @@
-ghost use Rattle.std.specs.Prelude.{◌≡◌, ◌≤◌, IfOk, IfErr, length};
+ghost use Rattle.std.specs.Prelude.{◌≡◌, ◌≤◌, [], IfOk, IfErr, OnOk, OnErr, IsErrOf, length, replicate};
+ghost use Rattle.std.specs.Option.{option_map};
 ghost use Rattle.far_base.specs.Limits.{IsPlan};
 ghost use Rattle.far_base.specs.declared.plan.TheConstants.{OP_LIMIT};
 ghost use Rattle.far_model.specs.View.{opening_view};
@@ -33,6 +34,22 @@ fn opening_clients(alloc: Global, plan: &Plan) -> Result<Vec<Seat>, Memory>
         seats.push(seat).map_err(|_| Memory)?;
     }
     Ok(seats)
+}
+
+/// The keeper begins with so many servers, all without records. After an error its records are as before.
+fn begin<K: Keeper>(keeper: &mut K, servers: u32) -> Result<(), StepFault>
+    ensures records { OnOk result (K.records keeper.new ≡ option_map (λ all. replicate servers [])
+        (K.records keeper.old)) }
+    ensures servers { OnOk result (K.server_count keeper.new ≡ servers) }
+    ensures ceiling { OnOk result (K.ceiling keeper.new ≡ 0) }
+    ensures same_records { OnErr result (K.records keeper.new ≡ K.records keeper.old) }
+    ensures same_servers { OnErr result (K.server_count keeper.new ≡ K.server_count keeper.old) }
+    ensures same_ceiling { OnErr result (K.ceiling keeper.new ≡ K.ceiling keeper.old) }
+    ensures later { K.fault_count keeper.old ≤ K.fault_count keeper.new }
+    ensures cause { IsErrOf result StepFault.KeeperFailed → Rose (K.fault_count keeper.old) (K.fault_count keeper.new) }
+{
+    keeper.begin(servers)?;
+    Ok(())
 }
 
 impl<S: Switch + Drop, K: Keeper + Drop> Parties<S, K> {
@@ -78,8 +95,7 @@ impl<S: Switch + Drop, K: Keeper + Drop> Parties<S, K> {
                 keeper,
             }),
         };
-        if let Err(fault) = keeper.begin(config.servers) {
-            let cause = StepFault::from(fault);
+        if let Err(cause) = begin(&mut keeper, config.servers) {
             return Err(Halted {
                 cause,
                 plan,
@@ -93,6 +109,7 @@ impl<S: Switch + Drop, K: Keeper + Drop> Parties<S, K> {
             running: true,
             clients,
             controller,
+            can_tick: false,
             keeper,
             bag: Bag::new(alloc),
             passes: [0; 9],

@@ -23,6 +23,8 @@ pub(crate) struct Parties<S: Switch + Drop, K: Keeper + Drop> {
     pub running: bool,
     pub clients: Vec<Seat>,
     pub controller: Controller,
+    /// Whether the controller has something to do for its first want.
+    pub can_tick: bool,
     pub keeper: K,
     pub bag: Bag,
     pub passes: [u64; 9],
@@ -42,7 +44,7 @@ impl<S: Switch + Drop, K: Keeper + Drop> Model for Parties<S, K> {
         p.passes p.done p.log
         (keeper_of (K.records p.keeper) (K.server_count p.keeper) (K.ceiling p.keeper) (K.fault_count p.keeper)) };
 
-    ghost invariant = { λ p. IsFit p.plan p.clients.items p.controller p.passes };
+    ghost invariant = { λ p. IsFit p.plan p.clients.items p.controller p.can_tick p.passes };
 }
 
 ghost use Rattle.std.specs.Prelude.{◌≡◌, ◌+◌, ◌^◌, ◌<◌, ◌≤◌, OnOk, OnErr, IsErrOf, length, slice_index, is_some};
@@ -178,6 +180,7 @@ impl<S: Switch + Drop, K: Keeper + Drop> Parties<S, K> {
             most_notes,
         )?;
         do_task(&mut self.controller, task, &mut self.turn)?;
+        self.can_tick = self.controller.tick_ready();
         post(&mut self.bag, &mut self.log, Party::Controller, &self.turn);
         Ok(())
     }
@@ -207,6 +210,7 @@ impl<S: Switch + Drop, K: Keeper + Drop> Parties<S, K> {
         )
         .map_err(|_| StepFault::Memory)?;
         let (epoch, counter) = self.controller.restart();
+        self.can_tick = self.controller.tick_ready();
         self.switch.reset(epoch, counter);
         self.running = true;
         note_recovered(counter, &records, &mut self.turn);

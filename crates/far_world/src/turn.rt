@@ -5,7 +5,7 @@ ghost use Rattle.far_model.specs.Pass.{outs_of};
 ghost use Rattle.far_world.specs.Steps.{Logs};
 
 use crate::bag::Bag;
-use far_base::{LogEntry, LogLine, Memory, Out, Packet, Party, Record};
+use far_base::{LogEntry, Memory, Out, Packet, Party, Record};
 use far_history::Log;
 use std::alloc::Global;
 
@@ -129,10 +129,7 @@ fn note_all(log: &mut Log, notes: &[LogEntry])
     let moment = log.steps() + 1;
     log.set_steps(moment);
     for entry in notes {
-        log.push(LogLine {
-            moment,
-            entry: *entry,
-        });
+        log.note(moment, entry);
     }
 }
 

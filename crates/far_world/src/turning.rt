@@ -26,7 +26,7 @@ impl<S: Switch + Drop, K: Keeper + Drop> Parties<S, K> {
         ensures { result ≡ choosing.event_party self.now.state (Event.Deliver place) }
     {
         if place < self.bag.len() {
-            self.bag.at(place).to
+            self.bag.addressee(place)
         } else {
             Party::Controller
         }

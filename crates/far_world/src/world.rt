@@ -55,11 +55,10 @@ ghost use Rattle.far_world.specs.Turning.{HasTurned, TurnsFor};
 fn last_answer(log: &Log) -> Option<u32>
     ensures { result ≡ last_answer log.now.steps log.now.lines }
 {
-    let lines = log.lines();
-    if lines.is_empty() {
+    if log.len() == 0 {
         return None;
     }
-    let line = &lines[lines.len() - 1];
+    let line = log.line(log.len() - 1);
     if line.moment != log.steps() {
         return None;
     }
@@ -261,6 +260,7 @@ impl<S: Switch + Drop, K: Keeper + Drop> World<S, K> {
             running: _,
             clients: _clients,
             controller: _controller,
+            can_tick: _,
             keeper,
             bag: _bag,
             passes: _,

@@ -1,27 +1,17 @@
--- The work of a plan, and the length of the bag.
+-- Scripts, the work of a plan at its opening, and its bound.
 use Rattle.std.proofs.Common.{◌≡◌, ℕ, zero, suc, ◌+◌, ◌*◌, ◌^◌, ◌≤◌, ◌<◌, ◌⊎◌, inl, inr, Bool, true, false, cond, nat_eq, List, [], ◌∷◌, length, refl, ap, ◌∙◌, arith, mul-le-mul, ne_eqb, eq-eqb, mul-add}
-use Rattle.std.specs.Prelude.{Option, None, Some}
 use Rattle.std.specs.List.{count_by, sum_by}
 use Rattle.std.proofs.lemmas.Bool.{cases_eq}
 use Rattle.std.proofs.lemmas.List.Sums.{sum_by-cons}
 use Rattle.far_base.specs.Limits.{IsPlan, is_slot_order, is_snap, is_stop}
 use Rattle.far_base.specs.PlanView.{PlanView}
-use Rattle.far_base.specs.declared.packet.Message.{Message}
-use Rattle.far_base.specs.declared.packet.Packet.{Packet}
-use Rattle.far_base.specs.declared.packet.Packet.TheVariants.{GetReq, WriteReq, GetFwd, WriteFwd, GetRep, WriteRep, GetAns, WriteAns}
-use Rattle.far_base.specs.declared.party.Party.{Party}
-use Rattle.far_base.specs.declared.plan.Config.{Config}
 use Rattle.far_base.specs.declared.plan.OpLine.{OpLine}
 use Rattle.far_base.specs.declared.plan.Order.{Order}
 use Rattle.far_base.specs.declared.plan.Order.TheVariants.{Admit as AdmitOrder, Evict as EvictOrder, Snap as SnapOrder, Stop as StopOrder, StopAt as StopAtOrder}
 use Rattle.far_model.specs.Clients.{opening_client, script_from}
-use Rattle.far_invariants.specs.Flights.{OfOperation, OneFlightPerOperation, flights_of, is_of_client, open_count, subject}
-use Rattle.far_model.specs.Members.{Among}
-use Rattle.far_model.specs.State.{State, client_at, clients_from, opening}
-use Rattle.far_invariants.specs.Uncached.{GoesTo, IsUncached, IsUncachedPlan}
+use Rattle.far_model.specs.State.{clients_from, opening}
 use Rattle.far_model.specs.View.{SwitchView, opening_view}
 use Rattle.far_model.specs.Work.{client_weight, order_weight, work_bound, work_left}
-use Rattle.flight_laws.proofs.Sends.{message_count}
 use Rattle.flight_laws.proofs.Working.{untaken_opening}
 
 -- ---- scripts
@@ -155,72 +145,6 @@ opening_within plan =
     bound m few orders =
         let product : m * (count_by is_snap plan.orders + count_by is_stop plan.orders + 1) ≡ m * count_by is_snap plan.orders + m * count_by is_stop plan.orders + m = three m (count_by is_snap plan.orders) (count_by is_stop plan.orders) in
         omega (arith, opening_parts plan, clients_most plan.ops plan.config.clients, orders, few, product)
-
-pub uncached_opening : (plan : PlanView) → IsUncachedPlan plan → work_left plan (opening plan) ≤ 24 * length plan.ops
-uncached_opening plan p =
-    let orders : sum_by (order_weight plan) plan.orders ≡ 0 = ap (sum_by (order_weight plan)) p.orders in
-    omega (arith, opening_parts plan, clients_most plan.ops plan.config.clients, orders)
-
--- ---- the bag
-
-total : (ℕ → ℕ) → ℕ → ℕ
-total f zero = 0
-total f (suc n) = f n + total f n
-
-total_most : (f : ℕ → ℕ) (n : ℕ) → ((c : ℕ) → f c ≤ 1) → total f n ≤ n
-unfolding total
-total_most f zero h = omega arith
-total_most f (suc n) h = omega (arith, h n, total_most f n h)
-
-total_more : (f g h : ℕ → ℕ) (n : ℕ) → ((c : ℕ) → f c ≡ g c + h c) → total f n ≡ total g n + total h n
-unfolding total
-total_more f g h zero e = refl
-total_more f g h (suc n) e = omega (arith, e n, total_more f g h n e)
-
-total_least : (f : ℕ → ℕ) (n c : ℕ) → c < n → f c ≡ 1 → 1 ≤ total f n
-unfolding total
-total_least f zero c lt e = absurd (omega arith)
-total_least f (suc n) c lt e = by (λ below. total_least f n c below e) (cases_eq c n)
-  where
-    by : (c < n → 1 ≤ total f n) → (c ≡ n) ⊎ (c ≡ n → ⊥) → 1 ≤ f n + total f n
-    by h (inl k) = omega (arith, ap f k, e)
-    by h (inr d) = omega (arith, h (omega arith))
-
--- the operation that a message is of
-record IsOwned (n : ℕ) (m : Message) : Type 0 where
-  caller : ℕ
-  op : ℕ
-  of : subject m.packet ≡ OfOperation caller op
-  within : caller < n
-
-owned_length : (n : ℕ) (bag : List Message) → ((m : Message) → Among m bag → IsOwned n m) → length bag ≤ total (λ c. flights_of c bag) n
-owned_length n [] h = omega arith
-owned_length n (m ∷ ms) h =
-    let own = h m (inl refl) in
-    let counted : message_count own.caller m ≡ 1 = ap (λ b. cond {A = ℕ} b 1 0) (ap (is_of_client own.caller) own.of ∙ eq-eqb own.caller own.caller refl) in
-    let more = total_more (λ c. flights_of c (m ∷ ms)) (λ c. message_count c m) (λ c. flights_of c ms) n (λ c. sum_by-cons (message_count c) m ms) in
-    omega (arith, more, total_least (λ c. message_count c m) n own.caller own.within counted, owned_length n ms (λ x a. h x (inr a)))
-
-goes_owned : (config : Config) (p : Packet) (from to : Party) → GoesTo config p to → IsOwned config.clients (record { from = from; to = to; packet = p })
-goes_owned config (GetReq caller op key) from to h = record { caller = caller; op = op; of = refl; within = h.1 }
-goes_owned config (WriteReq caller op key body) from to h = record { caller = caller; op = op; of = refl; within = h.1 }
-goes_owned config (GetFwd caller op key tag) from to h = record { caller = caller; op = op; of = refl; within = h.1 }
-goes_owned config (WriteFwd caller op key num body) from to h = record { caller = caller; op = op; of = refl; within = h.1 }
-goes_owned config (GetRep caller op key tag num body) from to h = record { caller = caller; op = op; of = refl; within = h.1 }
-goes_owned config (WriteRep caller op key num body) from to h = record { caller = caller; op = op; of = refl; within = h.1 }
-goes_owned config (GetAns caller op key num body near) from to h = record { caller = caller; op = op; of = refl; within = h.1 }
-goes_owned config (WriteAns caller op key num kept) from to h = record { caller = caller; op = op; of = refl; within = h.1 }
-goes_owned config _ from to h = absurd h
-
-open_most : (o : Option ℕ) → open_count o ≤ 1
-open_most None = omega arith
-open_most (Some op) = omega arith
-
-pub bag_within : (plan : PlanView) (s : State) → IsUncached plan s → OneFlightPerOperation s → length s.bag ≤ plan.config.clients
-bag_within plan s uncached one =
-    let owned = owned_length plan.config.clients s.bag (λ m a. goes_owned plan.config m.packet m.from m.to (uncached.messages m a)) in
-    let most = total_most (λ c. flights_of c s.bag) plan.config.clients (λ c. omega (arith, one.one c, open_most (client_at s c).waits)) in
-    omega (arith, owned, most)
 
 -- ---- the greatest plan
 

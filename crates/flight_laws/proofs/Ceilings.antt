@@ -23,7 +23,7 @@ use Rattle.far_model.specs.Servers.{record_of, server_keeps, server_reply, top_o
 use Rattle.far_model.specs.State.{State, opening, records_at}
 use Rattle.far_model.proofs.Members.{among_append, each_from_among}
 use Rattle.flight_laws.proofs.Lists.{get_or-replicate_default}
-use Rattle.flight_laws.proofs.WithoutCache.{answers_in_kind}
+use Rattle.flight_laws.proofs.InKind.{answers_in_kind}
 use Rattle.far_invariants.proofs.Records.{by_key_among, found_below, kept_among}
 use Rattle.far_model.specs.Replies.{kept_events, IsRunWith, ceiling_at, ceiling_by, ceiling_after, ReplyWithin, AnswersWithin, AnswersMessageWithin, RepliesWithin, KeepersAnswer}
 

@@ -29,7 +29,7 @@ use Rattle.far_model.proofs.Members.{among_append}
 use Rattle.flight_laws.proofs.Lists.{get_or-replicate_default}
 use Rattle.far_invariants.specs.InFlight.{AdmissionFits, AdmissionMeets, Emptied, OwnFlies, RoundFlies, epoch_in, is_ask, is_job_from, is_told, is_top}
 use Rattle.far_invariants.specs.Sizes.{IsSizedView}
-use Rattle.flight_laws.proofs.Counts.{count_append, count_cons, count_none, counted, counted_false, counted_true}
+use Rattle.flight_laws.proofs.Counts.{count_append, count_cons, count_none, counted, counted_false, counted_true, each_counted, one_each}
 use Rattle.flight_laws.proofs.Frames.{no_round}
 use Rattle.flight_laws.proofs.SwitchKeeps.{Inv, running_no_round}
 
@@ -123,41 +123,18 @@ ask_is number n (suc more) x (inl e) = (n, e)
 ask_is number n (suc more) x (inr a) = ask_is number (suc n) more x a
 
 -- each client is asked once
-asks_counted : (number k n more : ℕ) → (k < n → count_by (λ (x : Message). is_ask number k x.to x.packet) (messages_from Controller (to_clients n more (Ask number))) ≡ 0)
-    × (n ≤ k → k < n + more → count_by (λ (x : Message). is_ask number k x.to x.packet) (messages_from Controller (to_clients n more (Ask number))) ≡ 1)
-asks_counted number k n zero = (λ b. refl, λ a b. absurd (omega arith))
-asks_counted number k n (suc more) =
-    let f = λ (x : Message). is_ask number k x.to x.packet in
-    let m : Message = record { from = Controller; to = Client n; packet = Ask number } in
-    let all = count_cons f m (messages_from Controller (to_clients (suc n) more (Ask number))) in
-    let rest = asks_counted number k (suc n) more in (
-      λ b.
-          let off : counted f m ≡ 0 = counted_false f m ((λ z. nat_eq number number && ne_eqb n k (λ e. omega (arith, b, e)) z) ∙ and_none (nat_eq number number)) in
-          let none = rest.0 (omega (arith, b)) in
-          omega (arith, all, off, none),
-      λ a b. by (cases_eq n k) all rest a b,
-    )
+asks_each : (number n more : ℕ) → messages_from Controller (to_clients n more (Ask number)) ≡ one_each (λ k. record { from = Controller; to = Client k; packet = Ask number }) n more
+asks_each number n zero = refl
+asks_each number n (suc more) = ap (λ (l : List Message). record { from = Controller; to = Client n; packet = Ask number } ∷ l) (asks_each number (suc n) more)
+
+asks_counted : (number k more : ℕ) → k < more → count_by (λ (x : Message). is_ask number k x.to x.packet) (messages_from Controller (to_clients 0 more (Ask number))) ≡ 1
+asks_counted number k more b = ap (λ l. count_by (λ (x : Message). is_ask number k x.to x.packet) l) (asks_each number 0 more)
+    ∙ (each_counted (λ j. record { from = Controller; to = Client j; packet = Ask number }) (λ (x : Message). is_ask number k x.to x.packet) k ((λ z. eq-eqb number number refl z && nat_eq k k) ∙ eq-eqb k k refl)
+    (λ n ne. (λ z. nat_eq number number && ne_eqb n k ne z) ∙ and_none (nat_eq number number)) 0 more).1 (omega arith) (omega (arith, b))
   where
     and_none : (b : Bool) → b && false ≡ false
     and_none true = refl
     and_none false = refl
-
-    by : (n ≡ k) ⊎ (n ≡ k → ⊥)
-        → count_by (λ (x : Message). is_ask number k x.to x.packet) (record { from = Controller; to = Client n; packet = Ask number } ∷ messages_from Controller (to_clients (suc n) more (Ask number))) ≡ counted (λ (x : Message). is_ask number k x.to x.packet) (record { from = Controller; to = Client n; packet = Ask number }) + count_by (λ (x : Message). is_ask number k x.to x.packet) (messages_from Controller (to_clients (suc n) more (Ask number)))
-        → (k < suc n → count_by (λ (x : Message). is_ask number k x.to x.packet) (messages_from Controller (to_clients (suc n) more (Ask number))) ≡ 0)
-        × (suc n ≤ k → k < suc n + more → count_by (λ (x : Message). is_ask number k x.to x.packet) (messages_from Controller (to_clients (suc n) more (Ask number))) ≡ 1)
-        → n ≤ k → k < n + suc more
-        → count_by (λ (x : Message). is_ask number k x.to x.packet) (record { from = Controller; to = Client n; packet = Ask number } ∷ messages_from Controller (to_clients (suc n) more (Ask number))) ≡ 1
-    by (inl e) all rest a b =
-        let f = λ (x : Message). is_ask number k x.to x.packet in
-        let one = counted_true f (record { from = Controller; to = Client n; packet = Ask number }) ((λ z. eq-eqb number number refl z && nat_eq n k) ∙ eq-eqb n k e) in
-        let none = rest.0 (omega (arith, e)) in
-        omega (arith, all, one, none)
-    by (inr ne) all rest a b =
-        let f = λ (x : Message). is_ask number k x.to x.packet in
-        let off = counted_false f (record { from = Controller; to = Client n; packet = Ask number }) ((λ z. nat_eq number number && ne_eqb n k ne z) ∙ and_none (nat_eq number number)) in
-        let one = rest.1 (omega (arith, a, ne)) (omega (arith, b)) in
-        omega (arith, all, off, one)
 
 store_is : (plan : PlanView) (job : ℕ) (items : List Record) (x : Message) → Among x (messages_from Controller (stores_of plan.config job items)) → (j : ℕ) × (item : Record) × (x ≡ record { from = Controller; to = Server (server_of plan.config item.key); packet = Store j item }) × (job ≤ j) × (j < job + length items)
 store_is plan job [] x a = absurd a
@@ -379,7 +356,7 @@ recovery_keeps plan k s valid flight h able = record {
         let p = λ (x : Message). is_ask s.controller.next_round c x.to x.packet in
         let both = count_append p s.bag (asks ++ stores) in
         let two = count_append p asks stores in
-        let one = (asks_counted s.controller.next_round c 0 plan.config.clients).1 (omega arith) (omega (arith, b)) in
+        let one = asks_counted s.controller.next_round c plan.config.clients b in
         let nothing = count_none p stores (λ x a. let e = store_is plan s.controller.next_job (snapshot_stores s.controller) x a in ap (λ (w : Message). is_ask s.controller.next_round c w.to w.packet) e.2) in
         let old = count_none p s.bag (λ x a. of x a x.packet refl) in
         ap (count_by p) bag ∙ omega (arith, both, two, one, nothing, old)

@@ -40,7 +40,7 @@ use Rattle.far_model.specs.Work.{client_weight, eviction_weight, is_peeking, is_
 use Rattle.far_model.proofs.Members.{among_at, among_remove}
 use Rattle.flight_laws.proofs.Bounds.{scripts, scripts_most}
 use Rattle.flight_laws.proofs.Lists.{by_test, get_or-replicate_default, sum_by-set_same}
-use Rattle.flight_laws.proofs.WithoutCache.{client_within}
+use Rattle.flight_laws.proofs.InKind.{client_within}
 use Rattle.far_invariants.specs.InFlight.{EvictionIs, EvictionsFly, OwnFlies, TriesFit, is_own}
 use Rattle.far_invariants.specs.Sizes.{IsSized}
 use Rattle.flight_laws.proofs.Counts.{count_removed, counted_true, none_counted, sum_less, sum_removed, sum_same}

@@ -36,7 +36,7 @@ use Rattle.flight_laws.proofs.OneFlight.{Rests, all_rests, flight_begins, flight
 use Rattle.flight_laws.proofs.Passing.{PassSends, pass_sends}
 use Rattle.flight_laws.proofs.Ruling.{Rules, evict_rules, idle_rules, recovery_rules, snapshot_rules, takes_rules, tells_control, tick_rules}
 use Rattle.flight_laws.proofs.Sends.{Adds, IsControl, carried_adds, control_adds}
-use Rattle.flight_laws.proofs.WithoutCache.{answers_in_kind, client_within, length-clients_from}
+use Rattle.flight_laws.proofs.InKind.{answers_in_kind, client_within, length-clients_from}
 
 module _ (plan : PlanView) (k : Keeping) (s : State) (h : IsInFlight plan s) (rest : List Message) where
   travels_more : (sub : Subject) (out : List Message) → Rests s rest sub → ((m : Message) → Among m out → Travels plan.config m.from m.to m.packet) → (m : Message) → Among m (rest ++ out) → Travels plan.config m.from m.to m.packet

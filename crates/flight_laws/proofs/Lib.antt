@@ -12,6 +12,7 @@ pub mod EvictKeeps
 pub mod Finishing
 pub mod Frames
 pub mod Handling
+pub mod InKind
 pub mod KeptRuns
 pub mod Lists
 pub mod Logged
@@ -60,5 +61,5 @@ pub mod SwitchKeeps
 pub mod TickWork
 pub mod TurnKeeps
 pub mod Weights
-pub mod WithoutCache
 pub mod Working
+pub mod StopsStay

@@ -37,7 +37,7 @@ use Rattle.flight_laws.proofs.Passing.{pass_sends}
 use Rattle.flight_laws.proofs.SnapGathering.{IsAside}
 use Rattle.flight_laws.proofs.SnapPasses.{each_append}
 use Rattle.flight_laws.proofs.SnapTurning.{evict_aside, takes_aside, tick_aside}
-use Rattle.flight_laws.proofs.WithoutCache.{client_within}
+use Rattle.flight_laws.proofs.InKind.{client_within}
 
 -- ---- notes of the controller
 

@@ -23,7 +23,7 @@ use Rattle.far_model.specs.State.{State}
 use Rattle.far_model.proofs.Members.{among_append, among_map}
 use Rattle.far_invariants.specs.InFlight.{EvictionsFly, IsAsked, IsEvicted, IsTelling, OwnFlies, RoundFlies, RoundIs, TotalIs, due_top, epoch_in, is_ask, is_job_from, is_told, is_top}
 use Rattle.flight_laws.proofs.ControlKeeps.{control_admissions, control_epochs, control_sized, control_snapshots}
-use Rattle.flight_laws.proofs.Counts.{count_append, count_cons, count_none, counted, counted_false, counted_true}
+use Rattle.flight_laws.proofs.Counts.{count_append, count_cons, count_none, counted, counted_false, counted_true, each_counted, one_each}
 use Rattle.flight_laws.proofs.Moves.{Takes, moves_taken, of_admission, of_snapshot, sent_is}
 use Rattle.flight_laws.proofs.SwitchKeeps.{Inv}
 
@@ -35,41 +35,18 @@ tops_are number n (suc more) x (inl e) = (n, e)
 tops_are number n (suc more) x (inr a) = tops_are number (suc n) more x a
 
 -- each server is asked once
-tops_counted : (number k n more : ℕ) → (k < n → count_by (λ (x : Message). is_top number k x.to x.packet) (messages_from Controller (to_servers n more (TopAsk number))) ≡ 0)
-    × (n ≤ k → k < n + more → count_by (λ (x : Message). is_top number k x.to x.packet) (messages_from Controller (to_servers n more (TopAsk number))) ≡ 1)
-tops_counted number k n zero = (λ b. refl, λ a b. absurd (omega arith))
-tops_counted number k n (suc more) =
-    let f = λ (x : Message). is_top number k x.to x.packet in
-    let m : Message = record { from = Controller; to = Server n; packet = TopAsk number } in
-    let all = count_cons f m (messages_from Controller (to_servers (suc n) more (TopAsk number))) in
-    let rest = tops_counted number k (suc n) more in (
-      λ b.
-          let off : counted f m ≡ 0 = counted_false f m ((λ z. nat_eq number number && ne_eqb n k (λ e. omega (arith, b, e)) z) ∙ and_none (nat_eq number number)) in
-          let none = rest.0 (omega (arith, b)) in
-          omega (arith, all, off, none),
-      λ a b. by (cases_eq n k) all rest a b,
-    )
+tops_each : (number n more : ℕ) → messages_from Controller (to_servers n more (TopAsk number)) ≡ one_each (λ k. record { from = Controller; to = Server k; packet = TopAsk number }) n more
+tops_each number n zero = refl
+tops_each number n (suc more) = ap (λ (l : List Message). record { from = Controller; to = Server n; packet = TopAsk number } ∷ l) (tops_each number (suc n) more)
+
+tops_counted : (number k more : ℕ) → k < more → count_by (λ (x : Message). is_top number k x.to x.packet) (messages_from Controller (to_servers 0 more (TopAsk number))) ≡ 1
+tops_counted number k more b = ap (λ l. count_by (λ (x : Message). is_top number k x.to x.packet) l) (tops_each number 0 more)
+    ∙ (each_counted (λ j. record { from = Controller; to = Server j; packet = TopAsk number }) (λ (x : Message). is_top number k x.to x.packet) k ((λ z. eq-eqb number number refl z && nat_eq k k) ∙ eq-eqb k k refl)
+    (λ n ne. (λ z. nat_eq number number && ne_eqb n k ne z) ∙ and_none (nat_eq number number)) 0 more).1 (omega arith) (omega (arith, b))
   where
     and_none : (b : Bool) → b && false ≡ false
     and_none true = refl
     and_none false = refl
-
-    by : (n ≡ k) ⊎ (n ≡ k → ⊥)
-        → count_by (λ (x : Message). is_top number k x.to x.packet) (record { from = Controller; to = Server n; packet = TopAsk number } ∷ messages_from Controller (to_servers (suc n) more (TopAsk number))) ≡ counted (λ (x : Message). is_top number k x.to x.packet) (record { from = Controller; to = Server n; packet = TopAsk number }) + count_by (λ (x : Message). is_top number k x.to x.packet) (messages_from Controller (to_servers (suc n) more (TopAsk number)))
-        → (k < suc n → count_by (λ (x : Message). is_top number k x.to x.packet) (messages_from Controller (to_servers (suc n) more (TopAsk number))) ≡ 0)
-        × (suc n ≤ k → k < suc n + more → count_by (λ (x : Message). is_top number k x.to x.packet) (messages_from Controller (to_servers (suc n) more (TopAsk number))) ≡ 1)
-        → n ≤ k → k < n + suc more
-        → count_by (λ (x : Message). is_top number k x.to x.packet) (record { from = Controller; to = Server n; packet = TopAsk number } ∷ messages_from Controller (to_servers (suc n) more (TopAsk number))) ≡ 1
-    by (inl e) all rest a b =
-        let f = λ (x : Message). is_top number k x.to x.packet in
-        let one = counted_true f (record { from = Controller; to = Server n; packet = TopAsk number }) ((λ z. eq-eqb number number refl z && nat_eq n k) ∙ eq-eqb n k e) in
-        let none = rest.0 (omega (arith, e)) in
-        omega (arith, all, one, none)
-    by (inr ne) all rest a b =
-        let f = λ (x : Message). is_top number k x.to x.packet in
-        let off = counted_false f (record { from = Controller; to = Server n; packet = TopAsk number }) ((λ z. nat_eq number number && ne_eqb n k ne z) ∙ and_none (nat_eq number number)) in
-        let one = rest.1 (omega (arith, a, ne)) (omega (arith, b)) in
-        omega (arith, all, off, one)
 
 -- ---- what the round may count in a message that is of no round
 
@@ -294,7 +271,7 @@ module _ (plan : PlanView) (s : State) (h : Inv plan s) (rest : List Message) (m
         tops n b =
             let f = λ (x : Message). is_top mid.number n x.to x.packet in
             let both = count_append f (rest ++ mids) asks in
-            let one = (tops_counted mid.number n 0 plan.config.servers).1 (omega arith) (omega (arith, b)) in
+            let one = tops_counted mid.number n plan.config.servers b in
             let old : count_by f (rest ++ mids) ≡ due_top r n = ap (λ k. count_by (λ (x : Message). is_top k n x.to x.packet) (rest ++ mids)) number ∙ mid_tops n b in
             let none : due_top r n ≡ 0 = ap (λ z. cond {A = ℕ} (z && not (is_some (slice_index_or r.tops n None))) 1 0) (sym asked_same ∙ off) in
             let due : due_top (record mid { asked = true }) n ≡ 1 = ap (λ z. cond {A = ℕ} (not z) 1 0) (ap (λ l. is_some (slice_index_or l n None)) tops_same ∙ round_is.untold (sym asked_same ∙ off) n) in

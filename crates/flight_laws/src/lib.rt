@@ -8,7 +8,7 @@ mod pass_counts;
 mod past;
 mod runs;
 mod snapshots;
-mod uncached;
+mod stops;
 mod work;
 
 pub use flights::{one_flight, routes, steps_counted};
@@ -19,5 +19,5 @@ pub use snapshots::{
     completed_is_start, covers_stay, jobs_are_served, release_is_safe, snapshots_are_logged,
     snapshots_in_flight, snapshots_mean, snapshots_stand, written_records_agree,
 };
-pub use uncached::{uncached_passes, uncached_quiet, uncached_runs, uncached_work};
+pub use stops::recoveries_begin;
 pub use work::{flights_kept, numbers_drawn, quiet_exactly_finished, room_needed, work_lowered};

@@ -16,7 +16,10 @@ ghost use Rattle.far_invariants.specs.Past.{Past, SnapshotStart, past_of, rememb
 ghost use Rattle.far_model.specs.Runs.{IsRun, run};
 ghost use Rattle.far_model.specs.Snapshots.{Job};
 ghost use Rattle.far_model.specs.State.{State, client_at, opening};
-ghost use Rattle.far_invariants.specs.SnapshotLaws.{CompletedIsStart, CompletionIsSafe, IsOwed, JobIsServed, LogsSnapshots, MarksMatch, NoJobWhereQuiet, PartsAreStarts, PreservedIsAbove, ReleaseIsSafe, ReleasedIsCovered, StartCoversPoint};
+ghost use Rattle.far_invariants.specs.SnapshotLaws.{CompletedIsStart, CompletionIsSafe, IsOwed, JobIsServed};
+ghost use Rattle.far_invariants.specs.SnapshotLaws.{LogsSnapshots, MarksMatch, NoJobWhereQuiet, PartsAreStarts};
+ghost use Rattle.far_invariants.specs.SnapshotLaws.{PreservedIsAbove, ReleaseIsSafe, ReleasedIsCovered};
+ghost use Rattle.far_invariants.specs.SnapshotLaws.{StartCoversPoint};
 ghost use Rattle.far_invariants.specs.SnapshotNeeds.{Needs};
 ghost use Rattle.far_invariants.specs.SnapshotFlights.{AreRouted, SnapshotsInFlight};
 ghost use Rattle.far_invariants.specs.Snapshots.{SnapshotsStand};

@@ -8,13 +8,8 @@ use Rattle.far_base.specs.declared.log.LogLine.{LogLine}
 use Rattle.far_base.specs.declared.log.LogEntry.{LogEntry}
 use Rattle.far_base.specs.declared.log.LogEntry.TheVariants.{Emitted}
 use Rattle.far_model.specs.Members.{Among}
+use Rattle.far_invariants.proofs.Keys.{same_key_refl, same_key_true}
 use Rattle.far_model.specs.Log.{At, same_key, is_on, sending, exposed, IsTakingMoment, number_exposed, greatest_exposed}
-
-pub same_key_true : (a b : List ℕ) → same_key a b ≡ true → a ≡ b
-same_key_true a b h = (bytes_decides a b).0 h
-
-pub same_key_refl : (a : List ℕ) → same_key a a ≡ true
-same_key_refl a = (bytes_decides a a).1 refl
 
 -- a line that shows a number of the key by the moment
 pub record Shows (log : List LogLine) (key : List ℕ) (moment num : ℕ) : Type 0 where

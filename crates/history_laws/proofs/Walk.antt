@@ -10,7 +10,7 @@ use Rattle.far_model.specs.Members.{Among, Pairs}
 use Rattle.far_model.specs.Log.{same_key}
 use Rattle.far_model.specs.History.{Before, nothing, key_of, written_by, read_by, with_write, IsLegalFrom}
 use Rattle.far_model.proofs.Members.{each_among}
-use Rattle.history_laws.proofs.Exposed.{same_key_true, same_key_refl}
+use Rattle.far_invariants.proofs.Keys.{same_key_true, same_key_refl}
 
 -- no place stands both before and after another
 pub before_strict : (x y : Placed) → Before x y → Before y x → ⊥

@@ -71,8 +71,8 @@ fn cool(cells: &mut [HotCell])
     }
 }
 
-/// A cell of another era is first set to this one, with count 0. Where `hot` is above 0 the count then rises, and begins
-/// anew where it reaches `hot`. Whether it did.
+/// A cell of another era is first set to this one, with count 0. Where `hot` is above 0 the count then rises, and
+/// begins anew where it reaches `hot`. Whether it did.
 fn touch_cell(cell: &mut HotCell, hot: u32, era: u32) -> bool
     ensures cell { cell.new ≡ model.counted hot (model.in_era era cell.old) }
     ensures grows { result ≡ model.grows_hot hot (model.in_era era cell.old) }

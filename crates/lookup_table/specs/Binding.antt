@@ -1,5 +1,6 @@
 -- What a new pair of a key and a slot does to a lookup table.
-use Rattle.std.specs.Prelude.{ℕ, ◌+◌, ◌*◌, List, [], ◌∷◌, ◌++◌, length, remove, slice_set, slice_index_or, is_none, Option, None, Some}
+use Rattle.std.specs.Prelude.{ℕ, ◌+◌, ◌*◌, List, [], ◌∷◌, ◌++◌, length, remove, slice_set, slice_index_or, is_none}
+use Rattle.std.specs.Prelude.{Option, None, Some}
 use Rattle.std.specs.List.{position}
 use Rattle.lookup_table.specs.Table.{LookupView, bucket_in, bucket_cells, key_at, is_of_bucket, place_of}
 use Rattle.lookup_table.specs.declared.place.Place.{Place}
@@ -20,7 +21,11 @@ closed_up (Some at) slots = remove slots at
 
 -- a freed cell takes the first overflow pair of its bucket, and the overflow list closes up
 abbrev pub refilled : ℕ → Option ℕ → LookupView → LookupView
-refilled cell spilled t = record t { cells = slice_set t.cells cell (slot_at spilled t.overflow); overflow = closed_up spilled t.overflow }
+refilled cell spilled t = record t {
+  cells = slice_set t.cells cell (slot_at spilled t.overflow);
+  overflow =
+      closed_up spilled t.overflow;
+}
 
 abbrev pub unkeyed : Option ℕ → LookupView → LookupView
 unkeyed None t = t
@@ -56,7 +61,10 @@ put_in bucket slot (Some cell) t = record t { cells = slice_set t.cells (4 * buc
 -- a new pair goes into the lowest free cell of its bucket, or last into the overflow list
 abbrev pub with_pair : List ℕ → ℕ → LookupView → LookupView
 with_pair key slot t = let bucket = bucket_in (length t.bound) key in
-    put_in bucket slot (position is_none (bucket_cells bucket t.cells)) (record t { bound = slice_set t.bound slot (Some key) })
+    put_in bucket slot (position is_none (bucket_cells bucket t.cells)) (record t {
+      bound = slice_set t.bound slot
+          (Some key);
+    })
 
 -- the pairs with the key and with the slot are dropped, in this order, and the pair of both is added
 abbrev pub with_binding : List ℕ → ℕ → LookupView → LookupView

@@ -1,5 +1,6 @@
 -- Which lookup tables can be.
-use Rattle.std.specs.Prelude.{◌≡◌, ℕ, ◌+◌, ◌*◌, ◌/◌, ◌^◌, ◌<◌, Bool, false, eqb, is_some, List, length, slice_index_or, slice_get, count_by, Option, None, Some, IsSome}
+use Rattle.std.specs.Prelude.{◌≡◌, ℕ, ◌+◌, ◌*◌, ◌/◌, ◌^◌, ◌<◌, Bool, false, eqb, is_some, List, length, slice_index_or}
+use Rattle.std.specs.Prelude.{slice_get, count_by, Option, None, Some, IsSome}
 use Rattle.lookup_table.specs.declared.place.Place.{Place}
 use Rattle.lookup_table.specs.declared.place.Place.TheVariants.{Cell, Overflow}
 use Rattle.lookup_table.specs.Table.{LookupView, bucket_count, bucket_in, key_at, place_of}
@@ -16,15 +17,17 @@ abbrev pub times : Option (List ℕ) → ℕ
 times None = 0
 times (Some key) = 1
 
--- a table in which no key stands twice; a slot stands once where it has a key and else not at all; a slot in a cell has a key
--- of that bucket; and no slot in the overflow list has a key of a bucket with a free cell
+-- a table in which no key stands twice; a slot stands once where it has a key and else not at all; a slot in a cell has
+-- a key of that bucket; and no slot in the overflow list has a key of a bucket with a free cell
 pub record IsSound (t : LookupView) : Type 0 where
   pub few : length t.bound < 2 ^ 32
   pub size : length t.cells ≡ 4 * bucket_count (length t.bound)
   pub apart : (i j : ℕ) (key : List ℕ) → key_at t.bound i ≡ Some key → key_at t.bound j ≡ Some key → i ≡ j
   pub once : (slot : ℕ) → copies slot t ≡ times (key_at t.bound slot)
-  pub housed : (c slot : ℕ) (key : List ℕ) → slice_index_or t.cells c None ≡ Some slot → key_at t.bound slot ≡ Some key → bucket_in (length t.bound) key ≡ c / 4
-  pub full : (c slot : ℕ) (key : List ℕ) → c < length t.cells → slice_index_or t.cells c None ≡ None → 0 < count_by (eqb slot) t.overflow → key_at t.bound slot ≡ Some key → bucket_in (length t.bound) key ≡ c / 4 → ⊥
+  pub housed : (c slot : ℕ) (key : List ℕ) → slice_index_or t.cells c None ≡ Some slot → key_at t.bound slot
+      ≡ Some key → bucket_in (length t.bound) key ≡ c / 4
+  pub full : (c slot : ℕ) (key : List ℕ) → c < length t.cells → slice_index_or t.cells c None ≡ None → 0 < count_by
+      (eqb slot) t.overflow → key_at t.bound slot ≡ Some key → bucket_in (length t.bound) key ≡ c / 4 → ⊥
   pub filled : count_by is_some t.cells + length t.overflow ≡ count_by is_some t.bound
 
 abbrev pub held_at : Place → LookupView → Option ℕ

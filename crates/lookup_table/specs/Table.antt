@@ -1,5 +1,6 @@
 -- What contracts see of a lookup table: buckets of four cells, and an overflow list.
-use Rattle.std.specs.Prelude.{ℕ, ◌+◌, ◌*◌, ◌/◌, ◌%◌, Bool, false, nat_eq, List, [], take, drop, length, replicate, slice_index_or, sum, Option, None, Some}
+use Rattle.std.specs.Prelude.{ℕ, ◌+◌, ◌*◌, ◌/◌, ◌%◌, Bool, false, nat_eq, List, [], take, drop, length, replicate}
+use Rattle.std.specs.Prelude.{slice_index_or, sum, Option, None, Some}
 use Rattle.std.specs.List.{position}
 use Rattle.far_model.specs.View.{is_key_there}
 use Rattle.lookup_table.specs.declared.place.Place.{Place}

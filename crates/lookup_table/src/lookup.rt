@@ -6,9 +6,9 @@ use far_base::{Key, Memory};
 use std::alloc::{AllocError, Global};
 use std::marker::Model;
 
-/// A list of pairs of a key and a slot, where no key and no slot stands twice. A key has a bucket of four cells by the sum
-/// of its bytes; a pair stands in its key's bucket, or in the overflow list where that was full. Contracts see the key of
-/// each slot and the places.
+/// A list of pairs of a key and a slot, where no key and no slot stands twice. A key has a bucket of four cells by the
+/// sum of its bytes; a pair stands in its key's bucket, or in the overflow list where that was full. Contracts see the
+/// key of each slot and the places.
 #[derive(Drop)]
 pub struct Lookup {
     keys: Vec<Option<Key>>,
@@ -25,10 +25,15 @@ impl Model for Lookup {
 
     ghost view = { λ t. record { bound = t.keys.items; cells = t.cells.items; overflow = t.overflow.items } };
 
-    ghost invariant = { λ t. IsSound (record { bound = t.keys.items; cells = t.cells.items; overflow = t.overflow.items }) × (length t.keys.items ≤ vec_capacity t.overflow) };
+    ghost invariant = { λ t. IsSound (record {
+      bound = t.keys.items;
+      cells = t.cells.items;
+      overflow = t.overflow.items;
+    }) × (length t.keys.items ≤ vec_capacity t.overflow) };
 }
 
-ghost use Rattle.std.specs.Prelude.{◌≡◌, ◌+◌, ◌*◌, ◌^◌, ◌<◌, ◌≤◌, map, length, replicate, slice_index_or, slice_set, None, Some, IfOk, IfSome, IsNone};
+ghost use Rattle.std.specs.Prelude.{◌≡◌, ◌+◌, ◌*◌, ◌^◌, ◌<◌, ◌≤◌, map, length, replicate, slice_index_or, slice_set};
+ghost use Rattle.std.specs.Prelude.{None, Some, IfOk, IfSome, IsNone};
 ghost use Rattle.far_model.specs.View.{bound_place, bind_key, unbound};
 ghost use Rattle.lookup_table.specs.declared.place.Place.TheVariants.{Cell, Overflow};
 ghost use Rattle.lookup_table.specs.Binding.{with_binding, without_key, without_slot, with_pair, dropped_at};
@@ -95,9 +100,9 @@ impl Lookup {
         Some(Place::Overflow { at: at as u32 })
     }
 
-    /// Where the pair with the key stands. `None` exactly where no slot is bound to the key. A cell is one of the four of
-    /// the key's bucket; the overflow list serves a full bucket, and its places are without a gap. No two keys have one
-    /// place. One bucket is looked at, and the overflow list where the key is not in it.
+    /// Where the pair with the key stands. `None` exactly where no slot is bound to the key. A cell is one of the four
+    /// of the key's bucket; the overflow list serves a full bucket, and its places are without a gap. No two keys have
+    /// one place. One bucket is looked at, and the overflow list where the key is not in it.
     pub fn place(&self, key: &Key) -> Option<Place>
         ensures place { result ≡ place_of key.now self.now }
         ensures pair { IfSome result (λ place. IsPairAt key.now place self.now) }
@@ -186,9 +191,9 @@ impl Lookup {
         }
     }
 
-    /// Drops the pairs with that key or that slot, in this order, and adds the pair of both. A cell that a drop has freed
-    /// takes the first overflow pair of its bucket; the overflow list closes up and keeps its order. The new pair goes
-    /// into the lowest free cell of its bucket, or last into the overflow list. All other places stay.
+    /// Drops the pairs with that key or that slot, in this order, and adds the pair of both. A cell that a drop has
+    /// freed takes the first overflow pair of its bucket; the overflow list closes up and keeps its order. The new pair
+    /// goes into the lowest free cell of its bucket, or last into the overflow list. All other places stay.
     pub fn bind(&mut self, key: Key, slot: u32)
         requires { slot < length self.old.bound }
         ensures bound { self.new.bound ≡ bind_key key slot self.old.bound }

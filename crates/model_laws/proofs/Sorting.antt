@@ -76,8 +76,9 @@ use Rattle.model_laws.specs.Placing.{
   sent_in,
   sent_operations,
 }
-use Rattle.model_laws.proofs.Exposed.{exposed_most, exposed_shown}
-use Rattle.model_laws.proofs.Places.{before_or, same_place}
+use Rattle.history_laws.proofs.Exposed.{exposed_most, exposed_shown}
+use Rattle.history_laws.proofs.Unique.{same_place}
+use Rattle.model_laws.proofs.Places.{before_or}
 
 -- ---- the order is decided
 

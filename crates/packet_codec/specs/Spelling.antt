@@ -126,7 +126,11 @@ row (packet.SnapFrom epoch id base) = numbered kinds.SNAP_FROM (u32_part epoch a
 
 -- the version, the kind, the fields in their order and nothing else
 abbrev pub spelled : Packet → Part
-spelled packet = let r = row packet in record { bytes = VERSION ∷ r.kind ∷ r.fields.bytes; in_range = r.fields.in_range }
+spelled packet = let r = row packet in record {
+  bytes = VERSION ∷ r.kind ∷ r.fields.bytes;
+  in_range =
+      r.fields.in_range;
+}
 
 -- the bytes are the one spelling of the packet
 pub record Spells (bytes : List ℕ) (packet : Packet) : Type 0 where

@@ -37,7 +37,8 @@ pub fn decode(bytes: &[u8]) -> Result<Packet, BadPacket>
     ensures version { (result ≡ Err BadPacket.Version) ↔ HasOtherVersion bytes.now }
     ensures kind { (result ≡ Err BadPacket.Kind) ↔ HasNoKind bytes.now }
     ensures rest { (result ≡ Err BadPacket.Rest) ↔ IsLonger bytes.now }
-    ensures cut { (after : List ℕ) (p : Packet) → after ≢ [] → Spells (bytes.now ++ after) p → result ≡ Err BadPacket.Short }
+    ensures cut { (after : List ℕ) (p : Packet) → after ≢ [] → Spells (bytes.now ++ after) p
+        → result ≡ Err BadPacket.Short }
 {
     packet(bytes)
 }

@@ -43,7 +43,7 @@ pub record SentOn (log : List LogLine) (key : List ℕ) (op : ℕ) : Type 0 wher
   pub sent : Among (line_at sent_at (Sent op line)) log
   pub on_key : key ≡ line.key
 
-on_sent : (log : List LogLine) (key : List ℕ) (op : ℕ) → is_on log key op ≡ true → SentOn log key op
+pub on_sent : (log : List LogLine) (key : List ℕ) (op : ℕ) → is_on log key op ≡ true → SentOn log key op
 on_sent log key op h = go (sending log op) refl h
   where
     go : (o : Option (At OpLine)) → sending log op ≡ o → sent_on key o ≡ true → SentOn log key op

@@ -1,5 +1,5 @@
 -- Hot keys, wants and snapshots: calm steps.
-use Rattle.std.proofs.Common.{◌≡◌, ℕ, zero, suc, inl, inr, true, not, List, [], ◌∷◌, ◌++◌, length, refl, ap, ◌∙◌}
+use Rattle.std.proofs.Common.{◌≡◌, ℕ, zero, suc, inl, inr, true, not, List, [], ◌∷◌, ◌++◌, length, refl, sym, ap, ◌∙◌, subst}
 use Rattle.std.specs.Prelude.{Option, Some, None, ◌&&◌, nat_eq, nat_lt, is_some, slice_set, slice_get}
 use Rattle.far_base.specs.declared.packet.Message.{Message}
 use Rattle.far_base.specs.declared.packet.Out.{Out}
@@ -136,51 +136,35 @@ one_plain : (m : Message) → is_plain m.packet ≡ true → (n : Message) → A
 one_plain m h n (inl e) = ap (λ (w : Message). is_plain w.packet) e ∙ h
 one_plain m h n (inr a) = absurd a
 
+-- a snapshot begins: the switch takes its number and what it differs from
+begins_calm : (s : State) (rest : List Message) (packet : Packet) (id base : ℕ) → pass_notes packet (starts_snapshot s.switch id base) ≡ [] → IsCalmPass s rest packet (starts_snapshot s.switch id base)
+begins_calm s rest packet id base silent = record {
+  bag = refl;
+  plain = one_plain _ refl;
+  log = refl;
+  notes_are = subst (Each IsControlNote) (sym silent) tt;
+  steps = refl;
+  running = refl;
+  config = refl;
+  switch_epoch = refl;
+  counter = refl;
+  bound = refl;
+  slots = refl;
+  servers = refl;
+  waits = λ d. refl;
+  left = λ d. refl;
+  epoch = refl;
+  states = refl;
+  tags = refl;
+}
+
 pub snap_start_calm : (s : State) (rest : List Message) (epoch id : ℕ) → IsCalmPass s rest (SnapStart epoch id) (pass s.switch (SnapStart epoch id))
 snap_start_calm s rest epoch id = by_test (IsCalmPass s rest (SnapStart epoch id)) (nat_eq epoch s.switch.epoch) (starts_snapshot s.switch id 0) (dropped s.switch)
-    (record {
-      bag = refl;
-      plain = one_plain _ refl;
-      log = refl;
-      notes_are = tt;
-      steps = refl;
-      running = refl;
-      config = refl;
-      switch_epoch = refl;
-      counter = refl;
-      bound = refl;
-      slots = refl;
-      servers = refl;
-      waits = λ d. refl;
-      left = λ d. refl;
-      epoch = refl;
-      states = refl;
-      tags = refl;
-    })
-    (drop_calm s rest (SnapStart epoch id))
+    (begins_calm s rest (SnapStart epoch id) id 0 refl) (drop_calm s rest (SnapStart epoch id))
 
 pub snap_from_calm : (s : State) (rest : List Message) (epoch id base : ℕ) → IsCalmPass s rest (SnapFrom epoch id base) (pass s.switch (SnapFrom epoch id base))
 snap_from_calm s rest epoch id base = by_test (IsCalmPass s rest (SnapFrom epoch id base)) (nat_eq epoch s.switch.epoch) (starts_snapshot s.switch id base) (dropped s.switch)
-    (record {
-      bag = refl;
-      plain = one_plain _ refl;
-      log = refl;
-      notes_are = tt;
-      steps = refl;
-      running = refl;
-      config = refl;
-      switch_epoch = refl;
-      counter = refl;
-      bound = refl;
-      slots = refl;
-      servers = refl;
-      waits = λ d. refl;
-      left = λ d. refl;
-      epoch = refl;
-      states = refl;
-      tags = refl;
-    })
-    (drop_calm s rest (SnapFrom epoch id base))
+    (begins_calm s rest (SnapFrom epoch id base) id base refl) (drop_calm s rest (SnapFrom epoch id base))
 
 pub snap_read_calm : (s : State) (rest : List Message) (epoch id i : ℕ) → IsCalmPass s rest (SnapRead epoch id i) (pass s.switch (SnapRead epoch id i))
 snap_read_calm s rest epoch id i = by_test (IsCalmPass s rest (SnapRead epoch id i)) (is_slot_there s.switch epoch i) (reads_part s.switch id i) (dropped s.switch)

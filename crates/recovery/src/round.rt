@@ -25,12 +25,20 @@ impl Model for Round {
 
     ghost use Rattle.recovery.specs.Counts.{IsCounted};
 
-    ghost view = { λ r. record { number = r.number; first_job = r.first_job; told = r.tellings.items; stores = r.stores; asked = r.asked; tops = r.tops.items } };
+    ghost view = { λ r. record {
+      number = r.number;
+      first_job = r.first_job;
+      told = r.tellings.items;
+      stores = r.stores;
+      asked = r.asked;
+      tops = r.tops.items;
+    } };
 
     ghost invariant = { λ r. IsCounted r.tellings.items r.telling r.tops.items r.topping r.top };
 }
 
-ghost use Rattle.std.specs.Prelude.{◌≡◌, ◌+◌, ◌-◌, ◌<◌, ◌^◌, length, true, false, not, ◌&&◌, nat_lt, nat_le, nat_eq, is_some, None, Some, IfOk, slice_index_or, slice_set, if◌then◌else◌};
+ghost use Rattle.std.specs.Prelude.{◌≡◌, ◌+◌, ◌-◌, ◌<◌, ◌^◌, length, true, false, not, ◌&&◌, nat_lt, nat_le, nat_eq};
+ghost use Rattle.std.specs.Prelude.{is_some, None, Some, IfOk, slice_index_or, slice_set, if◌then◌else◌};
 ghost use Rattle.std.specs.List.{list_all};
 ghost use Rattle.far_model.specs.Rounds as model;
 ghost use Rattle.recovery.specs.Waits.{waits_told, waits_stored, waits_top};
@@ -87,7 +95,10 @@ impl Round {
     /// after one where that is 0.
     pub fn told(&mut self, caller: u32, total: u32)
         requires { waits_told self.old caller ≡ true }
-        ensures { self.new ≡ record self.old { told = slice_set self.old.told caller (model.tells_one total (model.telling_at self.old caller)) } }
+        ensures { self.new ≡ record self.old {
+          told = slice_set self.old.told caller (model.tells_one total
+              (model.telling_at self.old caller));
+        } }
     {
         let mut telling = self.tellings[caller as usize];
         telling.tell(total);
@@ -107,7 +118,8 @@ impl Round {
     /// A store was answered. One of a job before the round is ignored.
     pub fn stored(&mut self, job: u64)
         requires { waits_stored self.old ≡ true }
-        ensures { self.new ≡ (if nat_le self.old.first_job job then record self.old { stores = self.old.stores - 1 } else self.old) }
+        ensures { self.new ≡ (if nat_le self.old.first_job job then record self.old
+            { stores = self.old.stores - 1 } else self.old) }
     {
         if job >= self.first_job {
             self.stores -= 1;

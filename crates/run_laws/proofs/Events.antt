@@ -33,7 +33,7 @@ use Rattle.far_model.specs.State.{State}
 use Rattle.far_model.specs.View.{server_of}
 use Rattle.far_model.proofs.Members.{among_at, among_remove}
 use Rattle.flight_laws.proofs.Lists.{by_test}
-use Rattle.flight_laws.proofs.WithoutCache.{answers_in_kind}
+use Rattle.flight_laws.proofs.InKind.{answers_in_kind}
 use Rattle.record_laws.proofs.Arrivals.{admit_keeps}
 use Rattle.record_laws.proofs.Calm.{calm_keeps, rest_all, rest_taken}
 use Rattle.record_laws.proofs.Controls.{IsControlNote}

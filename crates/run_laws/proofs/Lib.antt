@@ -12,9 +12,12 @@ pub mod Meeting
 pub mod Moving
 pub mod Needing
 pub mod Numbers
+pub mod Removals
+pub mod Removed
 pub mod Runs
 pub mod SeatEvents
 pub mod Seating
+pub mod Sending
 pub mod Showing
 pub mod ShownEvents
 pub mod Steps

@@ -15,7 +15,7 @@ use Rattle.flight_laws.proofs.SnapEvents.{event_stands, keepers_answer}
 use Rattle.flight_laws.proofs.SnapRuns.{opening_stands}
 use Rattle.flight_laws.proofs.SnapServingEvents.{event_flies_with, opening_flies}
 use Rattle.flight_laws.proofs.Steps.{from_sound, sound_opens, sound_step, to_sound}
-use Rattle.flight_laws.proofs.WithoutCache.{answers_in_kind}
+use Rattle.flight_laws.proofs.InKind.{answers_in_kind}
 use Rattle.eviction_laws.proofs.EveryEvent.{event_sound}
 use Rattle.eviction_laws.proofs.KnownEvents.{event_knows}
 use Rattle.eviction_laws.proofs.DrawnEvents.{event_draws}

@@ -1,12 +1,6 @@
 -- Records, keys and tags, as the invariants have them.
-use Rattle.std.specs.Prelude.{Option, None, Some}
-use Rattle.far_model.specs.Rounds.{Round}
-use Rattle.far_base.specs.declared.packet.Packet.TheVariants.{Remove, Stored}
-use Rattle.far_base.specs.declared.packet.Packet.{Packet}
-use Rattle.eviction_laws.proofs.Meaning.{removal_is_stored}
-use Rattle.far_invariants.specs.Evictions.{IsCoveredRemoval, RemovalIsStored}
 use Rattle.far_invariants.specs.Holds.{Holds}
-use Rattle.std.proofs.Common.{◌≡◌, true, sym, ◌∙◌, refl}
+use Rattle.std.proofs.Common.{◌≡◌, true, sym, ◌∙◌}
 use Rattle.std.proofs.lemmas.Option.{same_Some}
 use Rattle.far_base.specs.Limits.{IsPlan}
 use Rattle.far_base.specs.PlanView.{PlanView}
@@ -48,16 +42,3 @@ module _ (plan : PlanView) (past : Past) (s : State) (valid : IsPlan plan) (h : 
   -- written records of one key and number have one body
   pub agree : (r q : Record) → IsRecord plan s r → IsRecord plan s q → r.key ≡ q.key → r.num ≡ q.num → r.body ≡ q.body
   agree r q a b key num = written_agree plan s s.steps s.steps r q h.stops.differ a b num
-
-  -- what a removal takes away its server has; in a round nothing is evicted
-  pub removals : RemovalIsStored plan s
-  removals m a = go s.controller.round refl
-    where
-      nothing : s.controller.eviction ≡ None → (p : Packet) → IsCoveredRemoval plan s p
-      nothing none (Remove own i tag latest num) = λ same l e is. absurd (let clash : None ≡ Some e = sym none ∙ is in cc)
-      nothing none (Stored job) = λ e is w. absurd (let clash : None ≡ Some e = sym none ∙ is in cc)
-      nothing none _ = tt
-
-      go : (o : Option Round) → s.controller.round ≡ o → IsCoveredRemoval plan s m.packet
-      go None out = removal_is_stored plan s out h.evictions m a
-      go (Some r) is = nothing (h.stops.round r is).goes.no_eviction m.packet

@@ -8,7 +8,8 @@ ghost use Rattle.far_model.specs.SnapshotAt.{IsSnapshotAt};
 ghost use Rattle.far_invariants.specs.Always.{Always};
 ghost use Rattle.far_invariants.specs.Past.{past_of};
 ghost use Rattle.far_invariants.specs.SnapshotFlights.{SnapshotsInFlight};
-ghost use Rattle.far_invariants.specs.SnapshotLaws.{CompletedIsStart, LogsSnapshots, MarksMatch, PartsAreStarts, ReleasedIsCovered, StartCoversPoint};
+ghost use Rattle.far_invariants.specs.SnapshotLaws.{CompletedIsStart, LogsSnapshots, MarksMatch, PartsAreStarts};
+ghost use Rattle.far_invariants.specs.SnapshotLaws.{ReleasedIsCovered, StartCoversPoint};
 ghost use Rattle.far_invariants.specs.Snapshots.{SnapshotsStand};
 
 /// A completed snapshot is what all slots held at the one moment at which its start came, whatever packets, evictions

@@ -1,19 +1,22 @@
 -- How a top call ends: the cause of its answer, what it has written, and what was due.
-use Rattle.std.proofs.Common.{arith, ◌≡◌, ◌⊎◌, inl, inr, ℕ, List, ◌++◌, Option, Some, None, Result, Ok, Err, take, refl, sym, ap, ◌∙◌, subst}
+use Rattle.std.proofs.Common.{arith, ◌≡◌, ◌⊎◌, inl, inr, ℕ, List, ◌++◌, Option, Some, None, Err, take, refl, sym, ap, ◌∙◌, subst}
 use Rattle.std.specs.Prelude.{IfSome}
 use Rattle.far_outside.specs.Faults.{Rose}
 use Rattle.far_base.specs.declared.record.Record.{Record}
-use Rattle.workload.specs.WorkView.{WorkView}
-use Rattle.run_main.specs.Inputs.{HasWorkload, IsRefused, IsRefusedAs, IsWorkload}
-use Rattle.run_main.specs.Lines.{bad_line, refusal_line, too_large_line, usage_line}
-use Rattle.run_main.specs.Replay.{IsReplayOf}
-use Rattle.run_main.specs.Saying.{IsAnswer, IsRead, IsReadAs, IsReadingFault, IsRefusalOf, IsRunFault, Says, SettlesReading}
-use Rattle.run_main.specs.Top.{ComesBeforeRun, HasCause, IsDue, IsOrMemory, IsReplay, IsReportDue, IsSettled, IsUnsaid, MadeNoRun, WroteDue}
+use Rattle.run_main.proofs.Taskings.{if_some}
+use Rattle.run_main.specs.Commands.{MakesRun, Reads, input_of}
+use Rattle.run_main.specs.Lines.{bad_image_line, bad_line, conflict_line, refusal_line, too_large_line, usage_line}
+use Rattle.run_main.specs.Replay.{Tells}
+use Rattle.run_main.specs.Saying.{IsAnswer, IsAsked, IsEarlyFault, IsRunFault, IsTaskFault, Says, SettlesTask}
+use Rattle.run_main.specs.Tasks.{HasTask, IsOfKind, IsTask, MergesOnly}
+use Rattle.run_main.specs.Texts.{IsTextOf, SeesTask}
+use Rattle.run_main.specs.Top.{ComesBeforeRun, HasCause, IsDecided, IsDone, IsDue, IsOrMemory, IsSettled, IsUnsaid, MadeNoRun, ReadFirst, ReadToEnd, WroteDue}
+use Rattle.run_main.specs.declared.command.Command.{Command}
+use Rattle.run_main.specs.declared.command.Command.TheVariants.{Replay, Image, Recover, Bulk}
 use Rattle.run_main.specs.declared.status.Status.{Status}
-use Rattle.run_main.specs.declared.status.Status.TheVariants.{Done, Usage, BadLine, ReadFault, WriteFault, KeeperFault, Memory, TooLarge}
-
-abbrev pub Words : Type 0
-Words = List (List ℕ)
+use Rattle.run_main.specs.declared.status.Status.TheVariants.{Done, Usage, BadLine, ReadFault, WriteFault, KeeperFault, Memory, TooLarge, BadImage, Conflict}
+use Rattle.run_main.specs.declared.task.Task.{Task}
+use Rattle.run_main.specs.declared.task.Task.TheVariants.{Run, Keep, Merge}
 
 abbrev pub Left : Type 0
 Left = Option (List ℕ)
@@ -23,29 +26,37 @@ Records = Option (List (List Record))
 
 -- ---- what is said is what was due
 
-pub wrote : (words : Words) (left : Left) (records : Records) (before now : Left) (text : List ℕ) (status answer : Status) → IsDue words left records status text → Says before now text status answer → WroteDue words left records before now answer
-wrote words left records None now text status answer due says = tt
-wrote words left records (Some before) None text status answer due says = says
-wrote words left records (Some before) (Some now) text status WriteFault due says = record { status = status; text = text; count = says.0; due = due; wrote = says.1 }
-wrote words left records (Some before) (Some now) text status Memory due says = says
-wrote words left records (Some before) (Some now) text status ReadFault due says = absurd says
-wrote words left records (Some before) (Some now) text status KeeperFault due says = absurd says
-wrote words left records (Some before) (Some now) text status Done due says = record { text = text; due = subst (λ (s : Status). IsDue words left records s text) (sym says.0) due; wrote = says.1 }
-wrote words left records (Some before) (Some now) text status Usage due says = record { text = text; due = subst (λ (s : Status). IsDue words left records s text) (sym says.0) due; wrote = says.1 }
-wrote words left records (Some before) (Some now) text status (BadLine line) due says = record { text = text; due = subst (λ (s : Status). IsDue words left records s text) (sym says.0) due; wrote = says.1 }
-wrote words left records (Some before) (Some now) text status (TooLarge limit line) due says = record { text = text; due = subst (λ (s : Status). IsDue words left records s text) (sym says.0) due; wrote = says.1 }
+pub wrote : (command : Option Command) (left : Left) (records : Records) (before now : Left) (text : List ℕ) (status answer : Status) → IsDue command left records status text → Says before now text status answer → WroteDue command left records before now answer
+wrote command left records None now text status answer due says = tt
+wrote command left records (Some before) None text status answer due says = says
+wrote command left records (Some before) (Some now) text status WriteFault due says = record { status = status; text = text; count = says.0; due = due; wrote = says.1 }
+wrote command left records (Some before) (Some now) text status Memory due says = says
+wrote command left records (Some before) (Some now) text status ReadFault due says = absurd says
+wrote command left records (Some before) (Some now) text status KeeperFault due says = absurd says
+wrote command left records (Some before) (Some now) text status Done due says = record { text = text; due = subst (λ (s : Status). IsDue command left records s text) (sym says.0) due; wrote = says.1 }
+wrote command left records (Some before) (Some now) text status Usage due says = record { text = text; due = subst (λ (s : Status). IsDue command left records s text) (sym says.0) due; wrote = says.1 }
+wrote command left records (Some before) (Some now) text status (BadLine line) due says = record { text = text; due = subst (λ (s : Status). IsDue command left records s text) (sym says.0) due; wrote = says.1 }
+wrote command left records (Some before) (Some now) text status (TooLarge limit line) due says = record { text = text; due = subst (λ (s : Status). IsDue command left records s text) (sym says.0) due; wrote = says.1 }
+wrote command left records (Some before) (Some now) text status (BadImage line) due says = record { text = text; due = subst (λ (s : Status). IsDue command left records s text) (sym says.0) due; wrote = says.1 }
+wrote command left records (Some before) (Some now) text status (Conflict line) due says = record { text = text; due = subst (λ (s : Status). IsDue command left records s text) (sym says.0) due; wrote = says.1 }
 
--- an answer that has no text
+-- ---- where there is no command
+
+pub wrote_usage : (command : Option Command) (left : Left) (records : Records) (before now : Left) (answer : Status) → None ≡ command → Says before now usage_line Usage answer → WroteDue command left records before now answer
+wrote_usage command left records before now answer none says = subst (λ (c : Option Command). WroteDue c left records before now answer) none (wrote None left records before now usage_line Usage answer refl says)
+
+-- ---- where there is no text
+
 abbrev pub IsSilent : Status → Type 0
 IsSilent ReadFault = Unit {0}
 IsSilent KeeperFault = Unit {0}
 IsSilent Memory = Unit {0}
 IsSilent _ = ⊥
 
-pub wrote_nothing : (words : Words) (left : Left) (records : Records) (before now : Left) (answer : Status) → IsSilent answer → now ≡ before → WroteDue words left records before now answer
-wrote_nothing words left records before now answer silent same = subst (λ (n : Left). WroteDue words left records before n answer) (sym same) (go before answer silent)
+pub wrote_nothing : (command : Option Command) (left : Left) (records : Records) (before now : Left) (answer : Status) → IsSilent answer → now ≡ before → WroteDue command left records before now answer
+wrote_nothing command left records before now answer silent same = subst (λ (n : Left). WroteDue command left records before n answer) (sym same) (go before answer silent)
   where
-    go : (b : Left) (a : Status) → IsSilent a → WroteDue words left records b b a
+    go : (b : Left) (a : Status) → IsSilent a → WroteDue command left records b b a
     go None a h = tt
     go (Some b) ReadFault h = refl
     go (Some b) KeeperFault h = refl
@@ -55,128 +66,226 @@ wrote_nothing words left records before now answer silent same = subst (λ (n : 
     go (Some b) (BadLine line) h = absurd h
     go (Some b) WriteFault h = absurd h
     go (Some b) (TooLarge limit line) h = absurd h
+    go (Some b) (BadImage line) h = absurd h
+    go (Some b) (Conflict line) h = absurd h
 
-pub says_nothing : (before now : Left) (text : List ℕ) (status : Status) → now ≡ before → Says before now text status Memory
-says_nothing before now text status same = subst (λ (n : Left). Says before n text status Memory) (sym same) (go before)
-  where
-    go : (b : Left) → Says b b text status Memory
-    go None = tt
-    go (Some b) = refl
+-- ---- where there is no task
 
--- ---- where there is no workload
+module _ (command : Command) (left : Left) where
+  pub caused_early : (source_rose sink_rose keeper_rose : Type 0) (status answer : Status) → IsEarlyFault command left source_rose status → IsAnswer status answer → (answer ≡ WriteFault → sink_rose)
+      → HasCause (Some command) left source_rose sink_rose keeper_rose answer
+  caused_early a b k status answer fault (inr (inl failed)) sink = subst (λ (s : Status). HasCause (Some command) left a b k s) (sym failed) (sink failed)
+  caused_early a b k status answer fault (inr (inr none)) sink = subst (λ (s : Status). HasCause (Some command) left a b k s) (sym none) tt
+  caused_early a b k status answer fault (inl same) sink = subst (λ (s : Status). HasCause (Some command) left a b k s) (sym same) (go status fault)
+    where
+      go : (s : Status) → IsEarlyFault command left a s → HasCause (Some command) left a b k s
+      go (BadLine line) h = h
+      go (TooLarge limit line) h = h
+      go (BadImage line) h = h
+      go (Conflict line) h = h
+      go ReadFault h = h
+      go Memory h = tt
+      go Done h = absurd h
+      go Usage h = absurd h
+      go WriteFault h = absurd h
+      go KeeperFault h = absurd h
 
-pub caused_early : (words : Words) (left : Left) (source_rose sink_rose keeper_rose : Type 0) (status answer : Status) → IsReplay words → IsReadingFault left source_rose status → IsAnswer status answer → (answer ≡ WriteFault → sink_rose)
-    → HasCause words left source_rose sink_rose keeper_rose answer
-caused_early words left a b k status answer r fault (inr (inl failed)) sink = subst (λ (s : Status). HasCause words left a b k s) (sym failed) (sink failed)
-caused_early words left a b k status answer r fault (inr (inr none)) sink = subst (λ (s : Status). HasCause words left a b k s) (sym none) tt
-caused_early words left a b k status answer r fault (inl same) sink = subst (λ (s : Status). HasCause words left a b k s) (sym same) (go status fault)
-  where
-    go : (s : Status) → IsReadingFault left a s → HasCause words left a b k s
-    go (BadLine line) h = (r, h)
-    go (TooLarge limit line) h = (r, h)
-    go ReadFault h = (r, h)
-    go Memory h = tt
-    go Done h = absurd h
-    go Usage h = absurd h
-    go WriteFault h = absurd h
-    go KeeperFault h = absurd h
+  pub wrote_early : (records : Records) (before now : Left) (source_rose : Type 0) (status answer : Status) → IsEarlyFault command left source_rose status → IsAnswer status answer
+      → IfSome (refusal_line status) (λ text. Says before now text status answer) → (refusal_line status ≡ None → (now ≡ before) × ((answer ≡ status) ⊎ (answer ≡ Memory))) → WroteDue (Some command) left records before now answer
+  wrote_early records before now a (BadLine line) answer fault is said silent = wrote (Some command) left records before now (bad_line line) (BadLine line) answer (fault, refl) said
+  wrote_early records before now a (TooLarge limit line) answer fault is said silent = wrote (Some command) left records before now (too_large_line limit line) (TooLarge limit line) answer (fault, refl) said
+  wrote_early records before now a (BadImage line) answer fault is said silent = wrote (Some command) left records before now (bad_image_line line) (BadImage line) answer (fault, refl) said
+  wrote_early records before now a (Conflict line) answer fault is said silent = wrote (Some command) left records before now (conflict_line line) (Conflict line) answer (fault, refl) said
+  wrote_early records before now a ReadFault answer fault is said silent = go (silent refl).1
+    where
+      go : (answer ≡ ReadFault) ⊎ (answer ≡ Memory) → WroteDue (Some command) left records before now answer
+      go (inl e) = wrote_nothing (Some command) left records before now answer (subst IsSilent (sym e) tt) (silent refl).0
+      go (inr e) = wrote_nothing (Some command) left records before now answer (subst IsSilent (sym e) tt) (silent refl).0
+  wrote_early records before now a Memory answer fault is said silent = go (silent refl).1
+    where
+      go : (answer ≡ Memory) ⊎ (answer ≡ Memory) → WroteDue (Some command) left records before now answer
+      go (inl e) = wrote_nothing (Some command) left records before now answer (subst IsSilent (sym e) tt) (silent refl).0
+      go (inr e) = wrote_nothing (Some command) left records before now answer (subst IsSilent (sym e) tt) (silent refl).0
+  wrote_early records before now a Done answer fault is said silent = absurd fault
+  wrote_early records before now a Usage answer fault is said silent = absurd fault
+  wrote_early records before now a WriteFault answer fault is said silent = absurd fault
+  wrote_early records before now a KeeperFault answer fault is said silent = absurd fault
 
-pub wrote_early : (words : Words) (left : Left) (records : Records) (before now : Left) (source_rose : Type 0) (status answer : Status) → IsReplay words → IsReadingFault left source_rose status → IsAnswer status answer
-    → IfSome (refusal_line status) (λ text. Says before now text status answer) → (refusal_line status ≡ None → (now ≡ before) × ((answer ≡ status) ⊎ (answer ≡ Memory))) → WroteDue words left records before now answer
-wrote_early words left records before now a (BadLine line) answer r fault is said silent = wrote words left records before now (bad_line line) (BadLine line) answer (r, fault, refl) said
-wrote_early words left records before now a (TooLarge limit line) answer r fault is said silent = wrote words left records before now (too_large_line limit line) (TooLarge limit line) answer (r, fault, refl) said
-wrote_early words left records before now a ReadFault answer r fault is said silent = go (silent refl).1
-  where
-    go : (answer ≡ ReadFault) ⊎ (answer ≡ Memory) → WroteDue words left records before now answer
-    go (inl e) = wrote_nothing words left records before now answer (subst IsSilent (sym e) tt) (silent refl).0
-    go (inr e) = wrote_nothing words left records before now answer (subst IsSilent (sym e) tt) (silent refl).0
-wrote_early words left records before now a Memory answer r fault is said silent = go (silent refl).1
-  where
-    go : (answer ≡ Memory) ⊎ (answer ≡ Memory) → WroteDue words left records before now answer
-    go (inl e) = wrote_nothing words left records before now answer (subst IsSilent (sym e) tt) (silent refl).0
-    go (inr e) = wrote_nothing words left records before now answer (subst IsSilent (sym e) tt) (silent refl).0
-wrote_early words left records before now a Done answer r fault is said silent = absurd fault
-wrote_early words left records before now a Usage answer r fault is said silent = absurd fault
-wrote_early words left records before now a WriteFault answer r fault is said silent = absurd fault
-wrote_early words left records before now a KeeperFault answer r fault is said silent = absurd fault
+  pub settled_early : (source_calm sink_calm keeper_calm : Type 0) (status answer : Status) → ((Reads command → source_calm) → IfSome (input_of command left) (λ input. SettlesTask command input (Err status)))
+      → (sink_calm → (answer ≡ status) ⊎ (answer ≡ Memory)) → IsSettled (Some command) left source_calm sink_calm keeper_calm answer
+  settled_early a b k status answer reading said = record {
+    refused = λ calm quiet. if_some _ _ (input_of command left) (λ input s refusal h. refused (s.refused refusal h) (said quiet)) (reading calm);
+    done = λ calm quiet steady. if_some _ _ (input_of command left) (λ input s task h. none (s.asked task h) (said quiet)) (reading calm);
+  }
+    where
+      refused : {refusal : Status} → (status ≡ refusal) ⊎ (status ≡ Memory) → (answer ≡ status) ⊎ (answer ≡ Memory) → IsOrMemory refusal answer
+      refused (inl e) (inl f) = inl (f ∙ e)
+      refused (inr e) (inl f) = inr (f ∙ e)
+      refused e (inr f) = inr f
 
-if_some : (P Q : List ℕ → Type 0) (left : Left) → ((input : List ℕ) → P input → Q input) → IfSome left P → IfSome left Q
-if_some P Q None f h = tt
-if_some P Q (Some input) f h = f input h
+      none : status ≡ Memory → (answer ≡ status) ⊎ (answer ≡ Memory) → IsOrMemory Done answer
+      none e (inl f) = inr (f ∙ e)
+      none e (inr f) = inr f
 
-pub settled_early : (words : Words) (left : Left) (source_calm sink_calm keeper_calm : Type 0) (status answer : Status) → IsReplay words → (source_calm → IfSome left (λ input. SettlesReading input (Err status)))
-    → (sink_calm → (answer ≡ status) ⊎ (answer ≡ Memory)) → IsSettled words left source_calm sink_calm keeper_calm answer
-settled_early words left a b k status answer r reading said = record {
-  other_words = λ other calm. absurd (other r);
-  refused = λ _ calm quiet. if_some _ _ left (λ input s refusal h. refused (s.refused refusal h) (said quiet)) (reading calm);
-  replayed = λ _ calm quiet _. if_some _ _ left (λ input s work h. none (s.workload work h) (said quiet)) (reading calm);
-}
-  where
-    refused : {refusal : Status} → (status ≡ refusal) ⊎ (status ≡ Memory) → (answer ≡ status) ⊎ (answer ≡ Memory) → IsOrMemory refusal answer
-    refused (inl e) (inl f) = inl (f ∙ e)
-    refused (inr e) (inl f) = inr (f ∙ e)
-    refused e (inr f) = inr f
-
-    none : status ≡ Memory → (answer ≡ status) ⊎ (answer ≡ Memory) → IsOrMemory Done answer
-    none e (inl f) = inr (f ∙ e)
-    none e (inr f) = inr f
+  -- a refusal comes only after the input was read, also where its line was not written
+  pub read_early : (now : Left) (source_rose : Type 0) (status answer : Status) → IsEarlyFault command left source_rose status → (Reads command → ReadFirst left now status) → IsAnswer status answer → Reads command → ReadFirst left now answer
+  read_early now a status answer fault first (inl same) reads = subst (λ (s : Status). ReadFirst left now s) (sym same) (first reads)
+  read_early now a status answer fault first (inr (inl failed)) reads = subst (λ (s : Status). ReadFirst left now s) (sym failed) tt
+  read_early now a status answer fault first (inr (inr none)) reads = subst (λ (s : Status). ReadFirst left now s) (sym none) tt
 
 -- ---- where there is one
 
-pub due_report : (words : Words) (left : Left) (records : Records) (work : WorkView) (text : List ℕ) → IsReplay words → IfSome left (λ input. IsRead input work) → IfSome records (λ all. IsReplayOf work text all) → IsDue words left records Done text
-due_report words None records work text r read replay = (r, tt)
-due_report words (Some input) None work text r read replay = (r, tt)
-due_report words (Some input) (Some all) work text r read replay = (r, record { work = work; is = read.is; replay = replay })
+module _ (command : Command) (left : Left) (task : Task) (asked : IfSome (input_of command left) (λ input. IsAsked command input task)) (kind : IsOfKind command task) where
+  has_task : IfSome (input_of command left) (HasTask command)
+  has_task = if_some _ _ (input_of command left) (λ input a. let h : HasTask command input = record { task = task; is = a.is } in h) asked
 
-pub settled_run : (words : Words) (left : Left) (source_calm sink_calm keeper_calm : Type 0) (work : WorkView) (answer : Status) → IsReplay words → IfSome left (λ input. IsRead input work) → (sink_calm → keeper_calm → IsOrMemory Done answer)
-    → IsSettled words left source_calm sink_calm keeper_calm answer
-settled_run words left a b k work answer r read done = record {
-  other_words = λ other calm. absurd (other r);
-  refused = λ _ calm quiet. if_some _ _ left (λ input s refusal h. absurd (s.settles.refused refusal h)) read;
-  replayed = λ _ calm quiet steady. if_some _ _ left (λ input s work h. done quiet steady) read;
-}
+  sees : (records : Records) → (MakesRun command → Tells records) → SeesTask task records
+  sees records tells = go command task kind tells
+    where
+      go : (c : Command) (t : Task) → IsOfKind c t → (MakesRun c → Tells records) → SeesTask t records
+      go c (Merge items) h k = tt
+      go Replay (Run work account) h k = k tt
+      go Replay (Keep work) h k = k tt
+      go Image (Run work account) h k = k tt
+      go Image (Keep work) h k = k tt
+      go Recover (Run work account) h k = absurd h
+      go Recover (Keep work) h k = absurd h
+      go (Bulk start ops) (Run work account) h k = k tt
+      go (Bulk start ops) (Keep work) h k = k tt
 
--- an answer of a run
-abbrev pub IsOfRun : Status → Type 0
-IsOfRun Done = Unit {0}
-IsOfRun WriteFault = Unit {0}
-IsOfRun KeeperFault = Unit {0}
-IsOfRun Memory = Unit {0}
-IsOfRun _ = ⊥
+  pub due_text : (before records : Records) (text : List ℕ) → (MakesRun command → Tells before) → (SeesTask task before → IsTextOf task text records) → IsDue (Some command) left records Done text
+  due_text before records text tells is = if_some _ _ (input_of command left) (λ input a. let h : IsDone command input text records = record { task = task; asked = a.is; done = is (sees before tells) } in h) asked
 
-pub ran : (words : Words) (left : Left) (work : WorkView) (answer : Status) → IsReplay words → IfSome left (λ input. IsRead input work) → IsOfRun answer → MadeNoRun words left answer → ⊥
-ran words left work answer r read of_run (inl other) = other r
-ran words left work answer r read of_run (inr (inr unsaid)) = go left read unsaid.told
-  where
-    go : (l : Left) → IfSome l (λ input. IsRead input work) → l ≡ Some unsaid.input → ⊥
-    go l h e = (subst (λ (o : Left). IfSome o (λ input. IsRead input work)) e h).settles.refused unsaid.refused.status unsaid.refused.is
-ran words left work answer r read of_run (inr (inl early)) = go answer of_run early
-  where
-    go : (a : Status) → IsOfRun a → ComesBeforeRun a → ⊥
-    go Done h e = e
-    go WriteFault h e = e
-    go KeeperFault h e = e
-    go Memory h e = e
-    go Usage h e = h
-    go (BadLine line) h e = h
-    go ReadFault h e = h
-    go (TooLarge limit line) h e = h
+  makes_run : (rose : Type 0) → IsTaskFault task rose KeeperFault → MakesRun command × rose
+  makes_run rose h = go command task kind h
+    where
+      go : (c : Command) (t : Task) → IsOfKind c t → IsTaskFault t rose KeeperFault → MakesRun c × rose
+      go c (Merge items) k f = absurd (let e : KeeperFault ≡ Memory = f in cc)
+      go Replay (Run work account) k f = (tt, f)
+      go Replay (Keep work) k f = (tt, f)
+      go Image (Run work account) k f = (tt, f)
+      go Image (Keep work) k f = (tt, f)
+      go Recover (Run work account) k f = absurd k
+      go Recover (Keep work) k f = absurd k
+      go (Bulk start ops) (Run work account) k f = (tt, f)
+      go (Bulk start ops) (Keep work) k f = (tt, f)
 
-pub answer_of_run : (answer : Status) → IsAnswer Done answer → IsOfRun answer
-answer_of_run answer (inl e) = subst IsOfRun (sym e) tt
-answer_of_run answer (inr (inl e)) = subst IsOfRun (sym e) tt
-answer_of_run answer (inr (inr e)) = subst IsOfRun (sym e) tt
+  -- an answer of a run
+  abbrev IsOfRun : Status → Type 0
+  IsOfRun Done = Unit {0}
+  IsOfRun WriteFault = Unit {0}
+  IsOfRun KeeperFault = Unit {0}
+  IsOfRun Memory = Unit {0}
+  IsOfRun _ = ⊥
 
-pub fault_of_run : (rose : Type 0) (answer : Status) → IsRunFault rose answer → IsOfRun answer
-fault_of_run rose KeeperFault h = tt
-fault_of_run rose Memory h = tt
-fault_of_run rose Done h = absurd h
-fault_of_run rose Usage h = absurd h
-fault_of_run rose (BadLine line) h = absurd h
-fault_of_run rose ReadFault h = absurd h
-fault_of_run rose WriteFault h = absurd h
-fault_of_run rose (TooLarge limit line) h = absurd h
+  fault_kinds : (rose : Type 0) (status : Status) → IsTaskFault task rose status → (status ≡ KeeperFault) ⊎ (status ≡ Memory)
+  fault_kinds rose status h = go task status h
+    where
+      runs : (s : Status) → IsRunFault rose s → (s ≡ KeeperFault) ⊎ (s ≡ Memory)
+      runs KeeperFault f = inl refl
+      runs Memory f = inr refl
+      runs Done f = absurd f
+      runs Usage f = absurd f
+      runs (BadLine line) f = absurd f
+      runs ReadFault f = absurd f
+      runs WriteFault f = absurd f
+      runs (TooLarge limit line) f = absurd f
+      runs (BadImage line) f = absurd f
+      runs (Conflict line) f = absurd f
+
+      go : (t : Task) (s : Status) → IsTaskFault t rose s → (s ≡ KeeperFault) ⊎ (s ≡ Memory)
+      go (Run work account) s f = runs s f
+      go (Keep work) s f = runs s f
+      go (Merge items) s f = inr f
+
+  pub caused_fault : (source_rose sink_rose keeper_rose : Type 0) (status : Status) → IsTaskFault task keeper_rose status → HasCause (Some command) left source_rose sink_rose keeper_rose status
+  caused_fault a b k status fault = go (fault_kinds k status fault)
+    where
+      go : (status ≡ KeeperFault) ⊎ (status ≡ Memory) → HasCause (Some command) left a b k status
+      go (inl e) = let m = makes_run k (subst (λ (s : Status). IsTaskFault task k s) e fault) in subst (λ (s : Status). HasCause (Some command) left a b k s) (sym e) (m.0, has_task, m.1)
+      go (inr e) = subst (λ (s : Status). HasCause (Some command) left a b k s) (sym e) tt
+
+  pub wrote_fault : (keeper_rose : Type 0) (status : Status) (records : Records) (before : Left) → IsTaskFault task keeper_rose status → WroteDue (Some command) left records before before status
+  wrote_fault k status records before fault = go (fault_kinds k status fault)
+    where
+      go : (status ≡ KeeperFault) ⊎ (status ≡ Memory) → WroteDue (Some command) left records before before status
+      go (inl e) = wrote_nothing (Some command) left records before before status (subst IsSilent (sym e) tt) refl
+      go (inr e) = wrote_nothing (Some command) left records before before status (subst IsSilent (sym e) tt) refl
+
+  pub settled_run : (source_calm sink_calm keeper_calm : Type 0) (answer : Status) → (sink_calm → (MakesRun command → keeper_calm) → IsOrMemory Done answer) → IsSettled (Some command) left source_calm sink_calm keeper_calm answer
+  settled_run a b k answer done = record {
+    refused = λ calm quiet. if_some _ _ (input_of command left) (λ input s refusal h. absurd (s.settles.refused refusal h)) asked;
+    done = λ calm quiet steady. if_some _ _ (input_of command left) (λ input s other h. done quiet steady) asked;
+  }
+
+  pub settled_fault : (source_calm sink_calm keeper_rose : Type 0) (status : Status) → IsTaskFault task keeper_rose status → IsSettled (Some command) left source_calm sink_calm (¬ keeper_rose) status
+  settled_fault a b rose status fault = settled_run a b (¬ rose) status (λ quiet steady. go steady (fault_kinds rose status fault))
+    where
+      go : (MakesRun command → ¬ rose) → (status ≡ KeeperFault) ⊎ (status ≡ Memory) → IsOrMemory Done status
+      go steady (inl e) = let m = makes_run rose (subst (λ (s : Status). IsTaskFault task rose s) e fault) in absurd (steady m.0 m.1)
+      go steady (inr e) = inr e
+
+  -- no refusal was due
+  unsaid : (answer : Status) → IsUnsaid command left answer → ⊥
+  unsaid answer u = go (input_of command left) asked u.told
+    where
+      go : (l : Left) → IfSome l (λ input. IsAsked command input task) → l ≡ Some u.input → ⊥
+      go l h e = (subst (λ (o : Left). IfSome o (λ input. IsAsked command input task)) e h).settles.refused u.refusal u.refused
+
+  merges : ¬ (MakesRun command) → MergesOnly task
+  merges none = go command task kind none
+    where
+      go : (c : Command) (t : Task) → IsOfKind c t → ¬ (MakesRun c) → MergesOnly t
+      go c (Merge items) h n = tt
+      go Replay (Run work account) h n = n tt
+      go Replay (Keep work) h n = n tt
+      go Image (Run work account) h n = n tt
+      go Image (Keep work) h n = n tt
+      go Recover (Run work account) h n = h
+      go Recover (Keep work) h n = h
+      go (Bulk start ops) (Run work account) h n = n tt
+      go (Bulk start ops) (Keep work) h n = n tt
+
+  early : (answer : Status) → IsOfRun answer → ComesBeforeRun answer → ⊥
+  early Done h e = e
+  early WriteFault h e = e
+  early KeeperFault h e = e
+  early Memory h e = e
+  early Usage h e = h
+  early (BadLine line) h e = h
+  early ReadFault h e = h
+  early (TooLarge limit line) h e = h
+  early (BadImage line) h e = h
+  early (Conflict line) h e = h
+
+  no_run : (answer : Status) → IsOfRun answer → MadeNoRun (Some command) left answer → MergesOnly task
+  no_run answer of_run (inl none) = merges none
+  no_run answer of_run (inr (inl before)) = absurd (early answer of_run before)
+  no_run answer of_run (inr (inr u)) = absurd (unsaid answer u)
+
+  pub no_run_said : (answer : Status) → IsAnswer Done answer → MadeNoRun (Some command) left answer → MergesOnly task
+  no_run_said answer is none = no_run answer (of is) none
+    where
+      of : IsAnswer Done answer → IsOfRun answer
+      of (inl e) = subst IsOfRun (sym e) tt
+      of (inr (inl e)) = subst IsOfRun (sym e) tt
+      of (inr (inr e)) = subst IsOfRun (sym e) tt
+
+  pub no_run_fault : (keeper_rose : Type 0) (status : Status) → IsTaskFault task keeper_rose status → MadeNoRun (Some command) left status → MergesOnly task
+  no_run_fault rose status fault none = no_run status (of (fault_kinds rose status fault)) none
+    where
+      of : (status ≡ KeeperFault) ⊎ (status ≡ Memory) → IsOfRun status
+      of (inl e) = subst IsOfRun (sym e) tt
+      of (inr e) = subst IsOfRun (sym e) tt
 
 -- a count that stands at 0 did not rise
 pub calm : ¬ (Rose 0 0)
 calm rose = omega arith
+
+-- over memory all counts stand at 0
+pub decided : (command : Option Command) (input : List ℕ) (a b k : Type 0) (answer : Status) → a → b → k → IsSettled command (Some input) a b k answer → IsDecided command input answer
+decided None input a b k answer still quiet steady settled = settled quiet
+decided (Some command) input a b k answer still quiet steady settled = record {
+  refused = λ _ _. settled.refused (λ _. still) quiet;
+  done = λ _ _ _. settled.done (λ _. still) quiet (λ _. steady);
+}

@@ -1,3 +1,9 @@
 mod Endings
+mod Finishing
+mod ImageReadings
+mod Keepings
+mod Orders
 mod Readings
 mod Replays
+mod Stopping
+mod Taskings

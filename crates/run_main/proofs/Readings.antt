@@ -12,7 +12,7 @@ use Rattle.run_main.specs.Inputs.{IsRefusedAs, IsWorkload}
 use Rattle.run_main.specs.Saying.{IsParsingFault, IsRead, IsReadAs, IsReadingFault, IsRefusalOf, SettlesReading}
 use Rattle.run_main.specs.Status.{status_of}
 use Rattle.run_main.specs.declared.status.Status.{Status}
-use Rattle.run_main.specs.declared.status.Status.TheVariants.{Done, Usage, BadLine, ReadFault, WriteFault, KeeperFault, Memory, TooLarge}
+use Rattle.run_main.specs.declared.status.Status.TheVariants.{Done, Usage, BadLine, ReadFault, WriteFault, KeeperFault, Memory, TooLarge, BadImage, Conflict}
 use Rattle.run_main.specs.declared.top.TheConstants.{INPUT_LIMIT}
 
 -- what parsing answered is what a text of that length is
@@ -22,7 +22,7 @@ settles_ok input w short first = record {
   refused = refused;
 }
   where
-    refused : (refusal : Status) → IsRefusedAs input refusal → IsRefusalOf refusal (Ok w)
+    refused : (refusal : Status) → IsRefusedAs input refusal → IsRefusalOf {T = WorkView} refusal (Ok w)
     refused (BadLine line) h = first (BadLineFault line) h.1
     refused (TooLarge limit line) (inl h) = absurd (let long : INPUT_LIMIT < length input = h.0 in omega arith)
     refused (TooLarge limit line) (inr h) = first (TooLargeFault limit line) h.1
@@ -31,6 +31,8 @@ settles_ok input w short first = record {
     refused ReadFault h = absurd h
     refused WriteFault h = absurd h
     refused KeeperFault h = absurd h
+    refused (BadImage line) h = absurd h
+    refused (Conflict line) h = absurd h
     refused Memory h = absurd h
 
 found_status : (fault wanted : WorkFault) → IsFoundAs {A = WorkView} (Err fault) wanted → (status_of fault ≡ status_of wanted) ⊎ (status_of fault ≡ Memory)
@@ -50,7 +52,7 @@ settles_err input fault short only first = record {
   refused = refused;
 }
   where
-    refused : (refusal : Status) → IsRefusedAs input refusal → IsRefusalOf refusal (Err (status_of fault))
+    refused : (refusal : Status) → IsRefusedAs input refusal → IsRefusalOf {T = WorkView} refusal (Err (status_of fault))
     refused (BadLine line) h = found_status fault (BadLineFault line) (first (BadLineFault line) h.1)
     refused (TooLarge limit line) (inl h) = absurd (let long : INPUT_LIMIT < length input = h.0 in omega arith)
     refused (TooLarge limit line) (inr h) = found_status fault (TooLargeFault limit line) (first (TooLargeFault limit line) h.1)
@@ -59,33 +61,28 @@ settles_err input fault short only first = record {
     refused ReadFault h = absurd h
     refused WriteFault h = absurd h
     refused KeeperFault h = absurd h
+    refused (BadImage line) h = absurd h
+    refused (Conflict line) h = absurd h
     refused Memory h = absurd h
 
 -- ---- the text that was read is the input, where the source tells it
-
-pub cause_read : (left now : Option (List ℕ)) (text : List ℕ) (rose : Type 0) (status : Status) → HasReadAll left now text → IsParsingFault text status → IsReadingFault left rose status
-cause_read None now text rose (BadLine line) read h = tt
-cause_read None now text rose (TooLarge limit line) read h = tt
-cause_read None now text rose Memory read h = tt
-cause_read None now text rose Done read h = absurd h
-cause_read None now text rose Usage read h = absurd h
-cause_read None now text rose ReadFault read h = absurd h
-cause_read None now text rose WriteFault read h = absurd h
-cause_read None now text rose KeeperFault read h = absurd h
-cause_read (Some input) None text rose status read h = absurd read
-cause_read (Some input) (Some rest) text rose (BadLine line) read h = subst (λ (i : List ℕ). IsRefusedAs i (BadLine line)) read.0 h
-cause_read (Some input) (Some rest) text rose (TooLarge limit line) read h = subst (λ (i : List ℕ). IsRefusedAs i (TooLarge limit line)) read.0 h
-cause_read (Some input) (Some rest) text rose Memory read h = tt
-cause_read (Some input) (Some rest) text rose Done read h = absurd h
-cause_read (Some input) (Some rest) text rose Usage read h = absurd h
-cause_read (Some input) (Some rest) text rose ReadFault read h = absurd h
-cause_read (Some input) (Some rest) text rose WriteFault read h = absurd h
-cause_read (Some input) (Some rest) text rose KeeperFault read h = absurd h
 
 pub told : (P : List ℕ → Type 0) (left now : Option (List ℕ)) (text : List ℕ) → HasReadAll left now text → P text → IfSome left P
 told P None now text read h = tt
 told P (Some input) None text read h = absurd read
 told P (Some input) (Some rest) text read h = subst P read.0 h
+
+cause_read : (left now : Option (List ℕ)) (text : List ℕ) (rose : Type 0) (status : Status) → HasReadAll left now text → IsParsingFault text status → IsReadingFault left rose status
+cause_read left now text rose (BadLine line) read h = told (λ input. IsRefusedAs input (BadLine line)) left now text read h
+cause_read left now text rose (TooLarge limit line) read h = told (λ input. IsRefusedAs input (TooLarge limit line)) left now text read h
+cause_read left now text rose Memory read h = tt
+cause_read left now text rose Done read h = absurd h
+cause_read left now text rose Usage read h = absurd h
+cause_read left now text rose ReadFault read h = absurd h
+cause_read left now text rose WriteFault read h = absurd h
+cause_read left now text rose KeeperFault read h = absurd h
+cause_read left now text rose (BadImage line) read h = absurd h
+cause_read left now text rose (Conflict line) read h = absurd h
 
 pub err_told : (left now : Option (List ℕ)) (text : List ℕ) (rose : Type 0) (result : Result WorkView Status) → HasReadAll left now text → IfErr result (IsParsingFault text) → IfErr result (IsReadingFault left rose)
 err_told left now text rose (Ok work) read h = tt

@@ -1,10 +1,9 @@
--- The report of a world that was run to its end by the picks of a workload is what replaying it gives.
+-- What is told of a world that was run to its end by the picks of a workload is what running it gives.
 use Rattle.std.proofs.Common.{◌≡◌, ℕ, ◌≤◌, true, List, [], ◌++◌, Some, None, refl, sym, ap, ◌∙◌, subst}
 use Rattle.std.specs.Prelude.{IfOk, IfSome, Option, Result, Ok, Err}
 use Rattle.far_base.specs.PlanView.{PlanView}
 use Rattle.far_base.specs.declared.event.Event.{Event}
 use Rattle.far_base.specs.declared.record.Record.{Record}
-use Rattle.far_history.specs.Report.{IsReport}
 use Rattle.far_invariants.specs.Always.{Always}
 use Rattle.far_invariants.specs.Recoveries.{BlocksAreRestarts}
 use Rattle.far_model.specs.Answered.{AllAnswered}
@@ -16,41 +15,48 @@ use Rattle.far_runner.specs.Pumped.{HasPumped}
 use Rattle.far_world.specs.Reached.{IsReached, IsRunOf, Ran}
 use Rattle.far_world.specs.Scene.{told_by}
 use Rattle.workload.specs.WorkView.{WorkView}
-use Rattle.run_main.specs.Replay.{IsReplayOf, Tells, log_of}
+use Rattle.run_main.specs.Replay.{IsAccount, IsReplayOf, Tells, log_of}
+use Rattle.run_main.specs.Texts.{IsTextOf}
+use Rattle.run_main.specs.declared.task.Account.{Account}
+use Rattle.run_main.specs.declared.task.Task.TheVariants.{Run}
 
 -- what follows of what was answered
 pub ok_map : {T E : Type 0} → (P Q : T → Type 0) (r : Result T E) → ((x : T) → P x → Q x) → IfOk r P → IfOk r Q
 ok_map P Q (Ok x) f h = f x h
 ok_map P Q (Err e) f h = tt
 
-over : (work : WorkView) (plan : PlanView) (events : List Event) (s : State) (text : List ℕ) (all : List (List Record)) → plan ≡ work.plan
+-- only the picks of the workload are asked for
+pub same_picks : (work : WorkView) (plan : PlanView) (old new : Ran) (count : ℕ) → HasPumped work old new count → HasPumped (record work { plan = plan }) old new count
+same_picks work plan old new count p = record { made = p.made; gone = p.gone; count_is = p.count_is; picked = p.picked }
+
+over : (work : WorkView) (account : Account) (plan : PlanView) (events : List Event) (s : State) (text : List ℕ) (all : List (List Record)) → plan ≡ work.plan
     → IsRun plan (opening plan) events → s ≡ run plan (opening plan) events → IsPickedFrom plan (pick_of work) 0 (opening plan) events → AllAnswered plan s → HasOneLegalHistory s.log → BlocksAreRestarts plan events s
-    → IsReport (log_of s) text → all ≡ s.servers → IsReplayOf work text all
-over work plan events s text all same =
-    subst (λ (p : PlanView). IsRun p (opening p) events → s ≡ run p (opening p) events → IsPickedFrom p (pick_of work) 0 (opening p) events → AllAnswered p s → HasOneLegalHistory s.log → BlocksAreRestarts p events s → IsReport (log_of s) text → all ≡ s.servers → IsReplayOf work text all)
-    (sym same) (λ runs is picked answered history restarts report servers. record {
+    → IsAccount account plan (log_of s) text → all ≡ s.servers → IsReplayOf work account text all
+over work account plan events s text all same =
+    subst (λ (p : PlanView). IsRun p (opening p) events → s ≡ run p (opening p) events → IsPickedFrom p (pick_of work) 0 (opening p) events → AllAnswered p s → HasOneLegalHistory s.log → BlocksAreRestarts p events s → IsAccount account p (log_of s) text → all ≡ s.servers → IsReplayOf work account text all)
+    (sym same) (λ runs is picked answered history restarts told servers. record {
       events = events;
       runs = record { enabled = runs; picked = picked };
       answered = subst (λ (z : State). AllAnswered work.plan z) is answered;
       history = subst (λ (z : State). HasOneLegalHistory z.log) is history;
       restarts = subst (λ (z : State). BlocksAreRestarts work.plan events z) is restarts;
-      report = subst (λ (z : State). IsReport (log_of z) text) is report;
+      told = subst (λ (z : State). IsAccount account work.plan (log_of z) text) is told;
       servers = servers ∙ ap (λ (z : State). z.servers) is;
     })
 
-module _ (work : WorkView) (start w : Ran) (count : ℕ) (text : List ℕ) (plan_is : start.plan ≡ work.plan) (none : start.events ≡ []) (opens : Tells start.keeper.records → start.state ≡ opening work.plan) (p : HasPumped work start w count) (h : IsReached w) where
+module _ (work : WorkView) (account : Account) (start w : Ran) (count : ℕ) (text : List ℕ) (plan_is : start.plan ≡ work.plan) (none : start.events ≡ []) (opens : Tells start.keeper.records → start.state ≡ opening work.plan) (p : HasPumped work start w count) (h : IsReached w) where
   here : w.plan ≡ work.plan
   here = p.gone.plan ∙ plan_is
 
   made_is : w.events ≡ p.made
   made_is = p.gone.events ∙ ap (λ (es : List Event). es ++ p.made) none
 
-  replays : Tells start.keeper.records → (all : List (List Record)) → w.keeper.records ≡ Some all → AllAnswered w.plan w.state → Always (λ plan events s. HasOneLegalHistory s.log) → Always (λ plan events s. BlocksAreRestarts plan events s) → IsReport (log_of w.state) text → IsReplayOf work text all
-  replays tells all told answered histories restarts report =
-      over work w.plan w.events w.state text all here d.enabled d.is picked answered
+  replays : Tells start.keeper.records → (all : List (List Record)) → w.keeper.records ≡ Some all → AllAnswered w.plan w.state → Always (λ plan events s. HasOneLegalHistory s.log) → Always (λ plan events s. BlocksAreRestarts plan events s) → IsAccount account w.plan (log_of w.state) text → IsReplayOf work account text all
+  replays tells all seen answered histories restarts told =
+      over work account w.plan w.events w.state text all here d.enabled d.is picked answered
       (subst (λ (z : State). HasOneLegalHistory z.log) (sym d.is) (histories w.plan w.events h.valid d.enabled))
       (subst (λ (z : State). BlocksAreRestarts w.plan w.events z) (sym d.is) (restarts w.plan w.events h.valid d.enabled))
-      report (sym (h.records ∙ ap (told_by w.plan.config.servers) told))
+      told (sym (h.records ∙ ap (told_by w.plan.config.servers) seen))
     where
       d : IsRunOf w.plan w.events w.state
       d = h.told (p.gone.tells ∙ tells)
@@ -67,7 +73,7 @@ module _ (work : WorkView) (start w : Ran) (count : ℕ) (text : List ℕ) (plan
       picked : IsPickedFrom w.plan (pick_of work) 0 (opening w.plan) w.events
       picked = subst (λ (q : PlanView). IsPickedFrom q (pick_of work) 0 (opening q) w.events) (sym here) third
 
-  pub replay_is : Tells start.keeper.records → (records : Option (List (List Record))) → records ≡ w.keeper.records → AllAnswered w.plan w.state → Always (λ plan events s. HasOneLegalHistory s.log) → Always (λ plan events s. BlocksAreRestarts plan events s) → IsReport (log_of w.state) text
-      → IfSome records (λ all. IsReplayOf work text all)
-  replay_is tells None same answered histories restarts report = tt
-  replay_is tells (Some all) same answered histories restarts report = replays tells all (sym same) answered histories restarts report
+  pub replay_is : Tells start.keeper.records → (records : Option (List (List Record))) → records ≡ w.keeper.records → AllAnswered w.plan w.state → Always (λ plan events s. HasOneLegalHistory s.log) → Always (λ plan events s. BlocksAreRestarts plan events s) → IsAccount account w.plan (log_of w.state) text
+      → IsTextOf (Run work account) text records
+  replay_is tells None same answered histories restarts told = tt
+  replay_is tells (Some all) same answered histories restarts told = replays tells all (sym same) answered histories restarts told

@@ -1,5 +1,9 @@
--- What an input is to a top call: a workload, or one that is refused.
+-- What an input is to a top call: a workload, an image, or one that is refused.
 use Rattle.std.specs.Prelude.{◌≡◌, ◌⊎◌, ℕ, ◌<◌, ◌≤◌, List, length}
+use Rattle.far_base.specs.declared.kept.KeptItem.{KeptItem}
+use Rattle.kept_image.specs.Faults.{HasImageFault}
+use Rattle.kept_image.specs.Meaning.{IsImage}
+use Rattle.kept_image.specs.declared.fault.ImageFault.TheVariants.{BadLine as BadImageFault, Conflict as ConflictFault}
 use Rattle.workload.specs.Faults.{HasFault}
 use Rattle.workload.specs.Meaning.{IsReading}
 use Rattle.workload.specs.WorkView.{WorkView}
@@ -7,7 +11,7 @@ use Rattle.workload.specs.declared.fault.Limit.{Limit}
 use Rattle.workload.specs.declared.fault.Limit.TheVariants.{Input}
 use Rattle.workload.specs.declared.fault.WorkFault.TheVariants.{BadLine as BadLineFault, TooLarge as TooLargeFault}
 use Rattle.run_main.specs.declared.status.Status.{Status}
-use Rattle.run_main.specs.declared.status.Status.TheVariants.{BadLine, TooLarge}
+use Rattle.run_main.specs.declared.status.Status.TheVariants.{BadLine, TooLarge, BadImage, Conflict}
 use Rattle.run_main.specs.declared.top.TheConstants.{INPUT_LIMIT}
 
 -- the input is not too long, and reads as this workload
@@ -33,3 +37,17 @@ IsRefusedAs input _ = ⊥
 pub record IsRefused (input : List ℕ) : Type 0 where
   pub status : Status
   pub is : IsRefusedAs input status
+
+-- ---- images
+
+-- the input is not too long, and reads as this kept list
+pub record IsKeptList (input : List ℕ) (items : List KeptItem) : Type 0 where
+  pub short : length input ≤ INPUT_LIMIT
+  pub reads : IsImage input items
+
+-- the input is refused as an image with this status: it is too long, or else this is the fault of its first faulty line
+abbrev pub IsRefusedImage : List ℕ → Status → Type 0
+IsRefusedImage input (BadImage line) = (length input ≤ INPUT_LIMIT) × HasImageFault input (BadImageFault line)
+IsRefusedImage input (Conflict line) = (length input ≤ INPUT_LIMIT) × HasImageFault input (ConflictFault line)
+IsRefusedImage input (TooLarge limit line) = IsTooLong input limit line
+IsRefusedImage input _ = ⊥

@@ -1,6 +1,11 @@
+pub mod Commands
+pub mod Images
 pub mod Inputs
 pub mod Lines
 pub mod Replay
+pub mod Run
 pub mod Saying
 pub mod Status
+pub mod Tasks
+pub mod Texts
 pub mod Top

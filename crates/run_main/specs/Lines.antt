@@ -5,7 +5,7 @@ use Rattle.far_text.specs.Text.{text_line}
 use Rattle.workload.specs.declared.fault.Limit.{Limit}
 use Rattle.workload.specs.declared.fault.Limit.TheVariants.{Input, Clients, Servers, Slots, Hot, Body, Ops, Orders, Snaps, Stops, Picks}
 use Rattle.run_main.specs.declared.status.Status.{Status}
-use Rattle.run_main.specs.declared.status.Status.TheVariants.{Done, Usage, BadLine, ReadFault, WriteFault, KeeperFault, Memory, TooLarge}
+use Rattle.run_main.specs.declared.status.Status.TheVariants.{Done, Usage, BadLine, ReadFault, WriteFault, KeeperFault, Memory, TooLarge, BadImage, Conflict}
 
 abbrev pub usage_line : List ℕ
 usage_line = codes "usage: far replay, run, image, recover, or bulk START OPS\n"
@@ -29,11 +29,19 @@ bad_line line = text_line (codes "bad line" ∷ decimal line ∷ [])
 abbrev pub too_large_line : Limit → ℕ → List ℕ
 too_large_line limit line = text_line (codes "too large" ∷ limit_word limit ∷ codes "line" ∷ decimal line ∷ [])
 
+abbrev pub bad_image_line : ℕ → List ℕ
+bad_image_line line = text_line (codes "bad image line" ∷ decimal line ∷ [])
+
+abbrev pub conflict_line : ℕ → List ℕ
+conflict_line line = text_line (codes "conflict line" ∷ decimal line ∷ [])
+
 -- the line of a refusal; the other answers have none
 abbrev pub refusal_line : Status → Option (List ℕ)
 refusal_line Usage = Some usage_line
 refusal_line (BadLine line) = Some (bad_line line)
 refusal_line (TooLarge limit line) = Some (too_large_line limit line)
+refusal_line (BadImage line) = Some (bad_image_line line)
+refusal_line (Conflict line) = Some (conflict_line line)
 refusal_line Done = None
 refusal_line ReadFault = None
 refusal_line WriteFault = None

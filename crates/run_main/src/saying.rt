@@ -66,6 +66,20 @@ fn refusal_line(alloc: Global, status: Status) -> Result<Option<Vec<u8>>, Memory
                 Word::Number(u64::from(number)),
             ],
         )?,
+        Status::BadImage(number) => put_line(
+            &mut line,
+            &[
+                Word::Text(b"bad image line"),
+                Word::Number(u64::from(number)),
+            ],
+        )?,
+        Status::Conflict(number) => put_line(
+            &mut line,
+            &[
+                Word::Text(b"conflict line"),
+                Word::Number(u64::from(number)),
+            ],
+        )?,
         _ => return Ok(None),
     }
     Ok(Some(line))

@@ -1,6 +1,7 @@
 ghost use Rattle.std.specs.Prelude.{◌≡◌};
 ghost use Rattle.run_main.specs.Status.{exit_number};
 
+use kept_image::ImageFault;
 use workload::{Limit, WorkFault};
 
 /// How a top call ended. Lines are counted from 1.
@@ -20,8 +21,13 @@ pub enum Status {
     KeeperFault,
     /// Memory was refused.
     Memory,
-    /// The first faulty line of the workload passes this limit; line 0 stands for the whole input.
+    /// The first faulty line of the workload passes this limit; line 0 stands for the whole input, or for the
+    /// arguments.
     TooLarge(Limit, u32),
+    /// The first faulty line of the image has none of the forms that may stand there.
+    BadImage(u32),
+    /// The first faulty line of the image gives a version of a key another body than an earlier line does.
+    Conflict(u32),
 }
 
 impl Status {
@@ -38,6 +44,7 @@ impl Status {
             Status::KeeperFault => 6,
             Status::Memory => 7,
             Status::TooLarge(_, _) => 8,
+            Status::BadImage(_) | Status::Conflict(_) => 9,
         }
     }
 }
@@ -52,6 +59,20 @@ impl From<WorkFault> for Status {
             WorkFault::BadLine(line) => Status::BadLine(line),
             WorkFault::TooLarge(limit, line) => Status::TooLarge(limit, line),
             WorkFault::Memory => Status::Memory,
+        }
+    }
+}
+
+impl From<ImageFault> for Status {
+    ghost use Rattle.run_main.specs.Status.{image_status_of};
+
+    ghost from_gives = { λ fault status. status ≡ image_status_of fault };
+
+    fn from(fault: ImageFault) -> Self {
+        match fault {
+            ImageFault::BadLine(line) => Status::BadImage(line),
+            ImageFault::Conflict(line) => Status::Conflict(line),
+            ImageFault::Memory => Status::Memory,
         }
     }
 }

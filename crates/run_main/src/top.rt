@@ -1,7 +1,9 @@
-use crate::reading::read_workload;
-use crate::replay::{Replayed, replay};
+use crate::command::{Command, command_of};
+use crate::making::made_of;
 use crate::saying::{refuse, say};
+use crate::starting::Made;
 use crate::status::Status;
+use crate::task::task_of;
 use far_outside::{CleanSink, CleanSource, Keeper, Sink, Source};
 use server_keeper::MapKeeper;
 use std::alloc::Global;
@@ -9,25 +11,11 @@ use std::alloc::Global;
 /// The greatest number of bytes of an input.
 pub const INPUT_LIMIT: u32 = 16_777_216;
 
-ghost use Rattle.std.specs.Prelude.{◌≡◌, ◌≢◌, ◌↔◌, ◌≤◌, Some, IsTrue, codes, map, string_bytes};
+ghost use Rattle.std.specs.Prelude.{◌≡◌, ◌≢◌, ◌≤◌, Some, map, string_bytes};
 ghost use Rattle.far_outside.specs.Faults.{Rose};
+ghost use Rattle.run_main.specs.Commands.{HasNumbers, Reads, command_of};
 ghost use Rattle.run_main.specs.Replay.{Tells};
-ghost use Rattle.run_main.specs.Top.{HasCause, IsDecided, IsReplay, IsSettled, IsUsageAnswer, MadeNoRun, ReadFirst, WroteDue};
-
-fn is_word(word: &str) -> bool
-    ensures { IsTrue result ↔ (word.now ≡ codes "replay") }
-{
-    word == "replay"
-}
-
-fn is_replay(words: &[String]) -> bool
-    ensures { IsTrue result ↔ IsReplay (map string_bytes words.now) }
-{
-    match words {
-        [word] => is_word(word.as_str()),
-        _ => false,
-    }
-}
+ghost use Rattle.run_main.specs.Top.{HasCause, IsDecided, IsSettled, MadeNoRun, ReadFirstFor, ReadsNothing, SeesRun, WroteDue};
 
 /// How a top call ended, and the keeper.
 pub struct Ended<K: Keeper + Drop> {
@@ -35,14 +23,59 @@ pub struct Ended<K: Keeper + Drop> {
     pub keeper: K,
 }
 
-/// Does what the arguments say: `replay` reads a workload to its end, runs it by its picks over the keeper, which is
-/// begun anew, and writes the report.
+/// Does what the command says.
+fn obey<S: Source, D: Sink, K: Keeper + Drop>(
+    alloc: Global,
+    command: Command,
+    source: &mut S,
+    sink: &mut D,
+    keeper: K,
+) -> Ended<K>
+    requires { HasNumbers command }
+    ensures causes { HasCause (Some command) (S.left source.old) (Rose (S.fault_count source.old) (S.fault_count source.new)) (Rose (D.fault_count sink.old) (D.fault_count sink.new)) (Rose (K.fault_count keeper) (K.fault_count result.keeper)) result.status }
+    ensures settled { IsSettled (Some command) (S.left source.old) (¬ Rose (S.fault_count source.old) (S.fault_count source.new)) (¬ Rose (D.fault_count sink.old) (D.fault_count sink.new)) (¬ Rose (K.fault_count keeper) (K.fault_count result.keeper)) result.status }
+    ensures written { SeesRun (Some command) (K.records keeper) → WroteDue (Some command) (S.left source.old) (K.records result.keeper) (D.written sink.old) (D.written sink.new) result.status }
+    ensures first { ReadFirstFor (Some command) (S.left source.old) (S.left source.new) result.status }
+    ensures untouched { ReadsNothing (Some command) → source.new ≡ source.old }
+    ensures no_run { MadeNoRun (Some command) (S.left source.old) result.status → result.keeper ≡ keeper }
+    ensures tells { Tells (K.records keeper) → Tells (K.records result.keeper) }
+{
+    let task = match task_of(alloc, command, source) {
+        Ok(task) => task,
+        Err(status) => {
+            return Ended {
+                status: refuse(alloc, sink, status),
+                keeper,
+            };
+        }
+    };
+    let Made { text, keeper } = made_of(alloc, task, keeper);
+    match text {
+        Ok(text) => Ended {
+            status: say(sink, &text, Status::Done),
+            keeper,
+        },
+        Err(status) => Ended { status, keeper },
+    }
+}
+
+/// Does what the arguments say, which is one of these:
 ///
-/// `Usage` where the arguments are not the one word `replay`; `BadLine` and `TooLarge` where the input is no workload,
-/// with its first faulty line, or has more than `INPUT_LIMIT` bytes: each writes one line. `ReadFault`, `WriteFault`
-/// and `KeeperFault` where a read, a write or a call of the keeper failed. The first cause decides, in the order
-/// arguments, reading, grammar, run, writing; nothing is written before the run has ended. The keeper comes back with
-/// the servers' records at the end of the run; where no run was made it is as it was.
+/// - `replay` reads a workload to its end, runs it by its picks, and writes the report;
+/// - `image` reads a workload to its end, runs it by its picks until a recovery begins, and writes the image of what is
+///   kept then; a workload without an order to stop is stopped at the greatest step;
+/// - `recover` reads an image to its end, and writes the map that a recovery makes of it;
+/// - `bulk START OPS` reads nothing, runs the workload that is generated from the number START, with so many
+///   operations, and writes the summary.
+///
+/// A run is made over the keeper, which is begun anew; `recover` makes none.
+///
+/// `Usage` where the arguments are none of these; `TooLarge(Ops, 0)` where OPS is more than `OP_LIMIT`; `BadLine` and
+/// `TooLarge` where the input is no workload, with its first faulty line, or has more than `INPUT_LIMIT` bytes;
+/// `BadImage` and `Conflict` where it is no image, with its first faulty line: each writes one line. `ReadFault`,
+/// `WriteFault` and `KeeperFault` where a read, a write or a call of the keeper failed. The first cause decides, in the
+/// order arguments, reading, grammar, run, writing; nothing is written before the run has ended. The keeper comes back
+/// with the servers' records at the end of the run; where no run was made it is as it was.
 pub fn top_calm<S: Source, D: Sink, K: Keeper + Drop>(
     alloc: Global,
     words: &[String],
@@ -51,45 +84,29 @@ pub fn top_calm<S: Source, D: Sink, K: Keeper + Drop>(
     keeper: K,
 ) -> Ended<K>
     // Each answer has its cause, and the first cause decides.
-    ensures causes { HasCause (map string_bytes words.now) (S.left source.old) (Rose (S.fault_count source.old) (S.fault_count source.new)) (Rose (D.fault_count sink.old) (D.fault_count sink.new)) (Rose (K.fault_count keeper) (K.fault_count result.keeper)) result.status }
+    ensures causes { HasCause (command_of (map string_bytes words.now)) (S.left source.old) (Rose (S.fault_count source.old) (S.fault_count source.new)) (Rose (D.fault_count sink.old) (D.fault_count sink.new)) (Rose (K.fault_count keeper) (K.fault_count result.keeper)) result.status }
     // Where no count rose the answer is the one that is due, unless memory was refused.
-    ensures settled { IsSettled (map string_bytes words.now) (S.left source.old) (¬ Rose (S.fault_count source.old) (S.fault_count source.new)) (¬ Rose (D.fault_count sink.old) (D.fault_count sink.new)) (¬ Rose (K.fault_count keeper) (K.fault_count result.keeper)) result.status }
-    // What is written is what was due, and a report comes only after all was read.
-    ensures written { Tells (K.records keeper) → WroteDue (map string_bytes words.now) (S.left source.old) (K.records result.keeper) (D.written sink.old) (D.written sink.new) result.status }
-    ensures first { ReadFirst (S.left source.old) (S.left source.new) result.status }
-    // Other words do nothing but write the usage line.
-    ensures other_words { ¬ (IsReplay (map string_bytes words.now)) → (S.left source.new ≡ S.left source.old) × IsUsageAnswer result.status }
+    ensures settled { IsSettled (command_of (map string_bytes words.now)) (S.left source.old) (¬ Rose (S.fault_count source.old) (S.fault_count source.new)) (¬ Rose (D.fault_count sink.old) (D.fault_count sink.new)) (¬ Rose (K.fault_count keeper) (K.fault_count result.keeper)) result.status }
+    // What is written is what was due, and it comes only after all was read.
+    ensures written { SeesRun (command_of (map string_bytes words.now)) (K.records keeper) → WroteDue (command_of (map string_bytes words.now)) (S.left source.old) (K.records result.keeper) (D.written sink.old) (D.written sink.new) result.status }
+    ensures first { ReadFirstFor (command_of (map string_bytes words.now)) (S.left source.old) (S.left source.new) result.status }
+    // Where there is nothing to read, nothing is read.
+    ensures untouched { ReadsNothing (command_of (map string_bytes words.now)) → source.new ≡ source.old }
     // Where no run was made the keeper is as it was; one that tells its records goes on telling them.
-    ensures no_run { MadeNoRun (map string_bytes words.now) (S.left source.old) result.status → result.keeper ≡ keeper }
+    ensures no_run { MadeNoRun (command_of (map string_bytes words.now)) (S.left source.old) result.status → result.keeper ≡ keeper }
     ensures tells { Tells (K.records keeper) → Tells (K.records result.keeper) }
 {
-    if !is_replay(words) {
-        return Ended {
+    match command_of(words) {
+        Some(command) => obey(alloc, command, source, sink, keeper),
+        None => Ended {
             status: refuse(alloc, sink, Status::Usage),
             keeper,
-        };
-    }
-    let load = match read_workload(alloc, source) {
-        Ok(load) => load,
-        Err(status) => {
-            return Ended {
-                status: refuse(alloc, sink, status),
-                keeper,
-            };
-        }
-    };
-    let Replayed { report, keeper } = replay(alloc, load, keeper);
-    match report {
-        Ok(report) => Ended {
-            status: say(sink, &report, Status::Done),
-            keeper,
         },
-        Err(status) => Ended { status, keeper },
     }
 }
 
-/// The top call over memory, where no read, no write and no call of the keeper fails: the answer is a report, the
-/// refusal that is due, or want of memory.
+/// The top call over memory, where no read, no write and no call of the keeper fails: the answer is the text of the
+/// command, the refusal that is due, or want of memory.
 pub fn top_calm_in_memory(
     alloc: Global,
     words: &[String],
@@ -100,8 +117,9 @@ pub fn top_calm_in_memory(
     ensures no_read_fault { result.status ≢ Status.ReadFault }
     ensures no_write_fault { result.status ≢ Status.WriteFault }
     ensures no_keeper_fault { result.status ≢ Status.KeeperFault }
-    ensures decided { IsDecided (map string_bytes words.now) source.old result.status }
-    ensures written { WroteDue (map string_bytes words.now) (Some source.old) (Some result.keeper) (Some sink.old) (Some sink.new) result.status }
+    ensures decided { IsDecided (command_of (map string_bytes words.now)) source.old result.status }
+    ensures written { WroteDue (command_of (map string_bytes words.now)) (Some source.old) (Some result.keeper) (Some sink.old) (Some sink.new) result.status }
+    ensures no_run { MadeNoRun (command_of (map string_bytes words.now)) (Some source.old) result.status → result.keeper ≡ keeper }
 {
     top_calm(alloc, words, source, sink, keeper)
 }

@@ -33,7 +33,16 @@ eviction_of e for_want job = record {
 }
 
 abbrev pub begun : ℕ → ℕ → List ℕ → ℕ → EvictView
-begun epoch slot key tag = record { epoch = epoch; slot = slot; key = key; tag = tag; due = Peeked; tries = 0; item = no_item key }
+begun epoch slot key tag = record {
+  epoch = epoch;
+  slot = slot;
+  key = key;
+  tag = tag;
+  due = Peeked;
+  tries = 0;
+  item =
+      no_item key;
+}
 
 -- an eviction whose job and purpose do not matter
 abbrev pub alone : EvictView → Eviction

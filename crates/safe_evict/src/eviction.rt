@@ -21,7 +21,15 @@ impl Model for Evict {
 
     ghost Value = { EvictView };
 
-    ghost view = { λ e. record { epoch = e.epoch; slot = e.slot; key = e.key; tag = e.tag; due = e.due; tries = e.tries; item = e.item } };
+    ghost view = { λ e. record {
+      epoch = e.epoch;
+      slot = e.slot;
+      key = e.key;
+      tag = e.tag;
+      due = e.due;
+      tries = e.tries;
+      item = e.item;
+    } };
 
     ghost invariant = { λ e. e.tries ≤ most_tries e.due };
 }

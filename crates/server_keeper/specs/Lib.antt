@@ -3,3 +3,4 @@ pub mod Faults
 pub mod Lists
 pub mod Scripted
 pub mod Step
+pub mod Table

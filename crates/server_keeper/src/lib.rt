@@ -5,10 +5,13 @@ mod map_keeper;
 mod records;
 mod scripted;
 mod step;
+mod table;
+mod table_keeper;
 
 pub use map_keeper::MapKeeper;
 pub use scripted::ScriptedKeeper;
 pub use step::{StepFault, server_step};
+pub use table_keeper::TableKeeper;
 
 #[cfg(test)]
 mod tests;

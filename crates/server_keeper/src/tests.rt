@@ -1,6 +1,7 @@
 use super::*;
 use far_base::{Body, Key, Packet, Record};
 use far_outside::{Keeper, KeeperFault};
+use std::alloc::Global;
 use std::test::Fail;
 
 fn key_of(text: &[u8]) -> Result<Key, Fail> {
@@ -74,5 +75,60 @@ fn a_failed_step_changes_no_record(rt: HostRuntime) -> Result<(), Fail> {
                 })
         );
     }
+    Ok(())
+}
+
+fn deleted(text: &[u8], num: u64) -> Result<Record, Fail> {
+    Ok(Record {
+        key: key_of(text)?,
+        num,
+        body: Body::absent(),
+    })
+}
+
+fn filled(alloc: Global) -> Result<TableKeeper, Fail> {
+    let mut keeper = TableKeeper::new(alloc)?;
+    keeper.begin(3).map_err(|_| "begin")?;
+    for (text, num) in [
+        (b"b".as_slice(), 3),
+        (b"ab".as_slice(), u64::MAX),
+        (b"a".as_slice(), 256),
+        (b"b".as_slice(), 2),
+        (b"c".as_slice(), 0),
+        (b"a".as_slice(), 255),
+    ] {
+        keeper.put(1, &record_of(text, num)?).map_err(|_| "put")?;
+    }
+    keeper.put(1, &deleted(b"b", 4)?).map_err(|_| "put")?;
+    keeper.put(2, &record_of(b"a", 7)?).map_err(|_| "put")?;
+    Ok(keeper)
+}
+
+#[test]
+fn a_table_keeps_the_greater_number(rt: HostRuntime) -> Result<(), Fail> {
+    let mut keeper = filled(rt.alloc())?;
+    assert!(rt; keeper.get(1, &key_of(b"a")?) == Ok(record_of(b"a", 256)?));
+    assert!(rt; keeper.get(1, &key_of(b"b")?) == Ok(deleted(b"b", 4)?));
+    assert!(rt; keeper.get(1, &key_of(b"c")?) == Ok(deleted(b"c", 0)?));
+    assert!(rt; keeper.get(0, &key_of(b"a")?) == Ok(deleted(b"a", 0)?));
+    assert!(rt; keeper.top(0) == Ok(0));
+    assert!(rt; keeper.top(1) == Ok(u64::MAX));
+    assert!(rt; keeper.top(2) == Ok(7));
+    let mut listed = Vec::new(rt.alloc());
+    keeper.list(2, &mut listed).map_err(|_| "list")?;
+    keeper.list(1, &mut listed).map_err(|_| "list")?;
+    assert!(rt;
+        listed.as_slice()
+            == [
+                record_of(b"a", 7)?,
+                record_of(b"a", 256)?,
+                record_of(b"ab", u64::MAX)?,
+                deleted(b"b", 4)?
+            ]
+            .as_slice()
+    );
+    keeper.begin(1).map_err(|_| "begin")?;
+    assert!(rt; keeper.top(0) == Ok(0));
+    assert_eq!(rt; keeper.faults(), 0);
     Ok(())
 }

@@ -22,7 +22,8 @@ impl Model for Parts {
     ghost invariant = { λ p. IsCounted p.come.items p.views.items p.missing };
 }
 
-ghost use Rattle.std.specs.Prelude.{◌≡◌, ◌<◌, ◌^◌, length, map, replicate, true, false, Some, None, IfOk, nat_lt, is_some, slice_index_or, slice_set};
+ghost use Rattle.std.specs.Prelude.{◌≡◌, ◌<◌, ◌^◌, length, map, replicate, true, false, Some, None, IfOk, nat_lt};
+ghost use Rattle.std.specs.Prelude.{is_some, slice_index_or, slice_set};
 ghost use Rattle.std.specs.List.{list_all};
 ghost use Rattle.far_model.specs.Snapshots.{view_in};
 

@@ -249,8 +249,10 @@ impl PlainSwitch {
 
     /// A server's reply goes on to the client as `answer`, and the entry of its key sees it.
     fn reply(&mut self, key: &Key, tag: Option<u64>, num: u64, body: &Body, answer: Out) -> Emit
-        ensures view { self.new ≡ (model.reply_passes self.old tag num body.now (Some answer) (entry_place key.now self.old)).view }
-        ensures emit { result ≡ emit_of (model.reply_passes self.old tag num body.now (Some answer) (entry_place key.now self.old)) }
+        ensures view { self.new ≡ (model.reply_passes self.old tag num body.now (Some answer)
+            (entry_place key.now self.old)).view }
+        ensures emit { result ≡ emit_of (model.reply_passes self.old tag num body.now (Some answer)
+            (entry_place key.now self.old)) }
     {
         let Some(slot) = self.entry(key) else {
             return Emit::one(answer);

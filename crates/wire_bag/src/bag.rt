@@ -94,9 +94,18 @@ impl Bag {
         ensures spare { self.old.spare ≤ self.new.spare }
     {
         let message = self.get(i);
+        self.remove(i);
+        message
+    }
+
+    /// Takes the message at place `i` away, counted from 0. The others keep their order.
+    pub fn remove(&mut self, i: u32)
+        requires { i < length self.old.messages }
+        ensures messages { self.new.messages ≡ remove self.old.messages i }
+        ensures spare { self.old.spare ≤ self.new.spare }
+    {
         self.boxes[i as usize..self.count as usize].rotate_left(1);
         self.count -= 1;
-        message
     }
 
     /// How many messages there are.
@@ -106,12 +115,20 @@ impl Bag {
         self.count
     }
 
+    /// The message at place `i`, counted from 0, where it stands.
+    pub fn at(&self, i: u32) -> &(Party, Party, Wire)
+        requires { i < length self.now.messages }
+        ensures { slice_get self.now.messages i ≡ Some result.now }
+    {
+        &self.boxes[i as usize]
+    }
+
     /// The message at place `i`, counted from 0, which stays.
     pub fn get(&self, i: u32) -> (Party, Party, Wire)
         requires { i < length self.now.messages }
         ensures { slice_get self.now.messages i ≡ Some result }
     {
-        *self.boxes[i as usize]
+        *self.at(i)
     }
 
     /// Whether no message is from the party.

@@ -6,8 +6,8 @@ use std::alloc::Global;
 use std::process::Abort;
 use std::test::Fail;
 
-/// Words, input, what is written, and the status, where no report is due.
-const REFUSED: [(&str, &str, &str, Status); 13] = [
+/// Arguments, input, what is written, and the status, where no text of a command is due.
+const REFUSED: [(&str, &str, &str, Status); 21] = [
     ("replay", "", "bad line 1\n", Status::BadLine(1)),
     (
         "replay",
@@ -46,9 +46,42 @@ const REFUSED: [(&str, &str, &str, Status); 13] = [
         Status::BadLine(7),
     ),
     ("run", "far 1\n", USAGE, Status::Usage),
-    ("image", "far 1\n", USAGE, Status::Usage),
-    ("recover", "far 1\n", USAGE, Status::Usage),
+    ("image recover", "far 1\n", USAGE, Status::Usage),
+    ("image", "far 1\n", "bad line 2\n", Status::BadLine(2)),
+    (
+        "recover",
+        "far 1\n",
+        "bad image line 1\n",
+        Status::BadImage(1),
+    ),
+    (
+        "recover",
+        "far 1 image\nserver a 3 =x\nclient 0 a 3 =y\nend\n",
+        "conflict line 3\n",
+        Status::Conflict(3),
+    ),
+    (
+        "recover",
+        "far 1 image\nserver a 3 =x\nend",
+        "bad image line 3\n",
+        Status::BadImage(3),
+    ),
     ("bulk", "far 1\n", USAGE, Status::Usage),
+    ("bulk 7", "far 1\n", USAGE, Status::Usage),
+    ("bulk 07 1", "far 1\n", USAGE, Status::Usage),
+    ("bulk 7 10000000000000000000", "", USAGE, Status::Usage),
+    (
+        "bulk 7 50001",
+        "",
+        "too large ops line 0\n",
+        Status::TooLarge(Limit::Ops, 0),
+    ),
+    (
+        "bulk 9999999999999999999 9999999999999999999",
+        "",
+        "too large ops line 0\n",
+        Status::TooLarge(Limit::Ops, 0),
+    ),
     ("Replay", "far 1\n", USAGE, Status::Usage),
     ("", "far 1\n", USAGE, Status::Usage),
 ];
@@ -75,22 +108,25 @@ impl<S: Source> Source for OneByOne<S> {
     }
 }
 
-fn words_of(alloc: Global, word: &str) -> Result<Vec<String>, Fail> {
+/// The arguments of a command line.
+pub(crate) fn words_of(alloc: Global, line: &str) -> Result<Vec<String>, Fail> {
     let mut words = Vec::new(alloc);
-    words.push(String::from_str(alloc, word)?)?;
+    for word in line.split(' ') {
+        words.push(String::from_str(alloc, word)?)?;
+    }
     Ok(words)
 }
 
 /// The one answer of a call over memory, where nothing fails.
-fn expect(
+pub(crate) fn expect(
     rt: &impl Abort,
     alloc: Global,
-    word: &str,
+    line: &str,
     input: &[u8],
     output: &[u8],
     expected: Status,
 ) -> Result<(), Fail> {
-    let words = words_of(alloc, word)?;
+    let words = words_of(alloc, line)?;
     let mut source = CleanSource::new(input.to_vec(alloc)?);
     let mut sink = CleanSink::new(alloc);
     let Ended {
@@ -119,11 +155,11 @@ fn rows_are_written_as_computed(rt: HostRuntime) -> Result<(), Fail> {
 
 #[test]
 fn a_refusal_is_one_line(rt: HostRuntime) -> Result<(), Fail> {
-    for (word, input, output, expected) in REFUSED {
+    for (line, input, output, expected) in REFUSED {
         expect(
             &rt,
             rt.alloc(),
-            word,
+            line,
             input.as_bytes(),
             output.as_bytes(),
             expected,

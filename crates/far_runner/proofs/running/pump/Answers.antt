@@ -1,8 +1,8 @@
-use Rattle.std.proofs.Common.{◌≡◌, ℕ, ◌+◌, ◌≤◌, true, false, sym, ap, ◌∙◌, subst, le_trans, arith}
+use Rattle.std.proofs.Common.{◌≡◌, false, sym, ◌∙◌, subst, arith}
 use Rattle.far_model.specs.Runs.{is_quiet}
 use Rattle.far_runner.proofs.Picking.{next_is, starts}
 use Rattle.far_runner.proofs.Pumping.{begins, ended, steps}
-use Rattle.far_runner.specs.Picked.{IsAt, pick_of}
+use Rattle.far_runner.specs.Picked.{IsAt}
 use Rattle.workload.specs.Picks.{Picking}
 use Rattle.far_runner.proofs.running.pump.Goals as goal
 

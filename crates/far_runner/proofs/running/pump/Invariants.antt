@@ -1,4 +1,3 @@
-use Rattle.std.proofs.Common.{◌≤◌}
 use Rattle.far_model.specs.Work.{work_left}
 use Rattle.far_runner.proofs.Pumping.{IsPumping}
 use Rattle.far_runner.proofs.running.pump.Given as goal

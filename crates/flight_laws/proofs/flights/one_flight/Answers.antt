@@ -1,5 +1,5 @@
 use Rattle.flight_laws.proofs.Handling.{flight_opens, flight_step}
-use Rattle.flight_laws.proofs.WithoutCache.{answers_in_kind}
+use Rattle.flight_laws.proofs.InKind.{answers_in_kind}
 use Rattle.flight_laws.proofs.flights.one_flight.Goals as goal
 
 pub returns-clause-answers : goal.returns-clause-answers

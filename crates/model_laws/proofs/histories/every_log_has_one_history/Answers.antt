@@ -1,4 +1,4 @@
-use Rattle.model_laws.proofs.Places.{the_history}
+use Rattle.history_laws.proofs.Unique.{the_history}
 use Rattle.model_laws.proofs.Sorting.{is_history}
 use Rattle.model_laws.proofs.histories.every_log_has_one_history.Goals as goal
 

@@ -3,7 +3,7 @@ use Rattle.far_base.specs.declared.record.Record.{Record}
 use Rattle.far_model.specs.History.{Agree, IsKeyBefore, IsNewestPerKey}
 use Rattle.far_model.specs.Members.{Among}
 use Rattle.far_model.proofs.Members.{pairs_unique}
-use Rattle.model_laws.proofs.Places.{key_strict}
+use Rattle.history_laws.proofs.Unique.{key_strict}
 use Rattle.model_laws.proofs.records.newest_is_one.Goals as goal
 
 -- a record of one list of the newest stands in the other

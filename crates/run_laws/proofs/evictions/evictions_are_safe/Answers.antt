@@ -1,5 +1,4 @@
-use Rattle.far_invariants.specs.Past.{past_of}
-use Rattle.run_laws.proofs.Whole.{removals}
+use Rattle.run_laws.proofs.Removed.{removal_is_stored}
 use Rattle.eviction_laws.proofs.Meaning.{absorbed_is_cached}
 use Rattle.far_model.specs.Runs.{run}
 use Rattle.far_model.specs.State.{opening}
@@ -10,7 +9,7 @@ pub returns-clause-sound : goal.returns-clause-sound
 returns-clause-sound c plan events valid r = (holds plan events valid r).evictions
 
 pub returns-clause-removals : goal.returns-clause-removals
-returns-clause-removals c plan events valid r = removals plan (past_of plan events) (run plan (opening plan) events) valid (holds plan events valid r)
+returns-clause-removals c plan events valid r = removal_is_stored plan events valid r
 
 pub returns-clause-cached : goal.returns-clause-cached
 returns-clause-cached c plan events valid r = absorbed_is_cached plan (run plan (opening plan) events) (holds plan events valid r).keeps

@@ -25,7 +25,7 @@ returns g c =
     let m = c.count_deliverable-deliverable.result in
     let k = c.args.place in
     let after : n + m ≤ k = omega (arith, c.if-place-senders.false, c.if-place-deliverable.false) in
-    let ticks : c.tick_ready.result ≡ is_some (tick s.controller) = c.tick_ready.ensures ∙ ap (λ (z : Scene). is_some (tick z.state.controller)) c.self.view_is in
+    let ticks : c.self.inside.can_tick ≡ is_some (tick s.controller) = c.self.invariant.ticks ∙ ap (λ (z : Scene). is_some (tick z.state.controller)) c.self.view_is in
     let restarts : c.is_some.result ≡ is_some (ready s.controller) = c.is_some.ensures ∙ (ap is_some c.ready.ensures ∙ ap (λ (z : Scene). is_some (ready z.state.controller)) c.self.view_is) in
     c.controller_event.ensures
     ∙ (ap (λ (b : Bool). get_or (controller_choices b c.can_recover.result c.is_some.result) (k - n - m) Tick) ticks

@@ -37,7 +37,7 @@ pub invariant_of-self-2 : goal.invariant_of-self-2
 invariant_of-self-2 g c =
     let there : c.args.number < length c.self.inside.clients.items = let h = rw (← c.self.view_is) at c.requires.there in rw length_clients at h in
     let took = c.take.ensures c.self.inside.plan.ops (own_seat c.self.inside.plan.ops c.self.inside.clients.items c.args.number c.index_mut-seat.result.now c.index_mut-seat.ensures.value there c.self.invariant.seated) in
-    fit_set c.self.inside.plan c.self.inside.clients.items c.self.inside.controller c.self.inside.passes c.args.number c.index_mut-seat.result.now c.take.new.self c.index_mut-seat.ensures.value there c.self.invariant took.seated
+    fit_set c.self.inside.plan c.self.inside.clients.items c.self.inside.controller c.self.inside.can_tick c.self.inside.passes c.args.number c.index_mut-seat.result.now c.take.new.self c.index_mut-seat.ensures.value there c.self.invariant took.seated
 
 pub returns-clause-ok : goal.returns-clause-ok
 returns-clause-ok g c =

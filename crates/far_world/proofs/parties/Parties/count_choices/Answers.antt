@@ -14,6 +14,6 @@ returns-clause-count g c =
     let one = λ (b : Bool). cond {A = ℕ} b 1 0 in
     counted c.args.self.now.state c.deref.result.now _ _ _ _ _ clients c.count_senders.ensures.count
     (c.count_deliverable.ensures.count ∙ ap (λ (z : Scene). count_by (can_deliver z.state.running) z.state.bag) c.self.view_is)
-    (c.one_if.ensures.value ∙ ap one (c.tick_ready.ensures ∙ ap (λ (z : Scene). is_some (tick z.state.controller)) c.self.view_is))
+    (c.one_if.ensures.value ∙ ap one (c.self.invariant.ticks ∙ ap (λ (z : Scene). is_some (tick z.state.controller)) c.self.view_is))
     (c.one_if-2.ensures.value ∙ ap one c.can_recover.ensures)
     (c.one_if-3.ensures.value ∙ ap one (c.is_some.ensures ∙ (ap is_some c.ready.ensures ∙ ap (λ (z : Scene). is_some (ready z.state.controller)) c.self.view_is)))

@@ -18,7 +18,7 @@ pub invariant_of-self-2 : goal.invariant_of-self-2
 invariant_of-self-2 g c =
     let there = sender_there (clients_of c.self.inside.clients.items) c.args.number (rw (← c.self.view_is) at c.requires.can) in
     let less : c.args.number < length c.self.inside.clients.items = rw length_clients at there in
-    fit_set c.self.inside.plan c.self.inside.clients.items c.self.inside.controller c.self.inside.passes c.args.number c.index_mut-seat.result.now c.send_next.new.self c.index_mut-seat.ensures.value less c.self.invariant
+    fit_set c.self.inside.plan c.self.inside.clients.items c.self.inside.controller c.self.inside.can_tick c.self.inside.passes c.args.number c.index_mut-seat.result.now c.send_next.new.self c.index_mut-seat.ensures.value less c.self.invariant
     (rw c.ops_of-ops.ensures at c.in_ok-send_next.ensures.ok.seated)
 
 pub returns-clause-ok : goal.returns-clause-ok

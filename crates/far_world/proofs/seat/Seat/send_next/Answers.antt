@@ -23,4 +23,4 @@ returns-clause-ok c =
     subst (λ (self : SeatView). TakesTurn c.args.ops.now self c.args.turn.now (next_sent c.args.ops.now self.number self.state self.state.left) (seat_of c.send.new.self (c.self.inside.next + 1) c.self.inside.script.items) c.note.new.self) c.self.view_is
     (sends_next c.args.ops.now c.self.inside.client c.send.new.self c.self.inside.script.items c.self.inside.next c.requires.seated.sent c.index-op.result.now c.index-ops-op.result c.in_ok-packet.packet c.args.turn.now c.note.new.self
     c.index-op.ensures (rw (← c.self.view_is) at c.requires.can) (rw (← c.self.view_is) at c.requires.seated.left) c.index-ops-op.is
-    c.in_ok-packet.ensures.open c.in_ok-packet.ensures.packet (rw (c.note.ensures.out, c.send-2.ensures.out) refl) (rw (c.note.ensures.notes, c.send-2.ensures.notes) refl))
+    c.in_ok-packet.ensures.waits c.in_ok-packet.ensures.packet (rw (c.note.ensures.out, c.send-2.ensures.out) refl) (rw (c.note.ensures.notes, c.send-2.ensures.notes) refl))

@@ -1,0 +1,3 @@
+mod Moves
+mod SameBodies
+mod TurnLaws

@@ -1,0 +1,12 @@
+use Rattle.std.proofs.Common.{ap, refl}
+use Rattle.far_world.specs.Scene.{KeeperView}
+use Rattle.run_main.proofs.Replays.{ok_map, replay_is, same_picks}
+use Rattle.run_main.proofs.running.run_to_end.Goals as goal
+
+pub returns-clause-text : goal.returns-clause-text
+returns-clause-text g c = λ tells.
+    rw c.handed_back-2.ensures.text
+    (ok_map _ _ c.account_of-text.result
+    (λ text is. replay_is (record c.args.load.now { plan = c.args.world.plan }) c.args.account c.args.world c.pump.new.world _ text.items refl c.requires.events c.requires.state (same_picks c.args.load.now c.args.world.plan c.args.world c.pump.new.world _ c.in_default.ensures.pumped) c.account_of-text.ensures.reached tells _
+    (ap (λ (k : KeeperView). k.records) c.handed_back-2.ensures.keeper) (c.account_of-text.ensures.answered c.in_default.ensures.finished) c.runs_have_one_history.ensures.history c.restarts_restore.ensures.blocks is)
+    c.account_of-text.ensures.text)

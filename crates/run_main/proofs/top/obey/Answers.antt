@@ -1,0 +1,14 @@
+use Rattle.std.proofs.Common.{rules}
+use Rattle.run_main.proofs.Endings.{due_text, settled_early, wrote}
+use Rattle.run_main.specs.Texts.{IsTextOf, SeesTask}
+use Rattle.run_main.specs.declared.status.Status.TheVariants.{Done}
+use Rattle.run_main.proofs.top.obey.Goals as goal
+
+pub returns-in-Ok-text-clause-written : goal.returns-in-Ok-text-clause-written
+returns-in-Ok-text-clause-written g c = λ tells.
+    let made : SeesTask c.in-Ok.task (g.K.Keeper.records c.args.keeper) → IsTextOf c.in-Ok.task c.in-Ok-text.text.items (g.K.Keeper.records c.made_of-text.result.keeper) = λ sees. search rules in
+    wrote _ _ _ _ _ c.in-Ok-text.text.items Done _ (due_text _ _ c.in-Ok.task c.in-Ok.ensures.read.asked c.in-Ok.ensures.read.kind _ _ c.in-Ok-text.text.items tells made)
+    (rw c.deref.ensures.value at c.say.ensures.said)
+
+pub returns-in-Err-clause-settled : goal.returns-in-Err-clause-settled
+returns-in-Err-clause-settled g c = settled_early c.args.command _ _ _ _ c.in-Err.status _ c.in-Err.ensures.read.calm c.refuse.ensures.calm

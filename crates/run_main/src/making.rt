@@ -1,0 +1,33 @@
+ghost use Rattle.std.specs.Prelude.{◌≡◌, ◌≤◌, IfOk, IfErr};
+ghost use Rattle.far_outside.specs.Faults.{Rose};
+ghost use Rattle.run_main.specs.Replay.{Tells};
+ghost use Rattle.run_main.specs.Saying.{IsTaskFault};
+ghost use Rattle.run_main.specs.Tasks.{IsReady, MergesOnly};
+ghost use Rattle.run_main.specs.Texts.{IsTextOf, SeesTask};
+
+use crate::keeping::keep;
+use crate::merging::merged_text;
+use crate::running::replay;
+use crate::starting::Made;
+use crate::task::Task;
+use far_outside::Keeper;
+use std::alloc::Global;
+
+/// Does the task, over the keeper where it makes a run.
+pub(crate) fn made_of<K: Keeper + Drop>(alloc: Global, task: Task, keeper: K) -> Made<K>
+    requires { IsReady task }
+    ensures text { SeesTask task (K.records keeper) → IfOk result.text (λ text. IsTextOf task text.items (K.records result.keeper)) }
+    ensures fault { IfErr result.text (IsTaskFault task (Rose (K.fault_count keeper) (K.fault_count result.keeper))) }
+    ensures later { K.fault_count keeper ≤ K.fault_count result.keeper }
+    ensures tells { Tells (K.records keeper) → Tells (K.records result.keeper) }
+    ensures same { MergesOnly task → result.keeper ≡ keeper }
+{
+    match task {
+        Task::Run(load, account) => replay(alloc, load, account, keeper),
+        Task::Keep(load) => keep(alloc, load, keeper),
+        Task::Merge(image) => Made {
+            text: merged_text(alloc, &image),
+            keeper,
+        },
+    }
+}

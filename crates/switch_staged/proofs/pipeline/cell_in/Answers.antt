@@ -1,0 +1,16 @@
+use Rattle.std.proofs.Common.{rules, arith, sym, subst, ap, ◌∙◌, length, ◌<◌}
+use Rattle.std.specs.Prelude.{slice_index_or}
+use Rattle.std.proofs.lemmas.Option.{get_or_from_slice_get}
+use Rattle.register_stages.specs.Arrays.{cells_of}
+use Rattle.switch_staged.specs.Rows.{zero_cell}
+use Rattle.switch_staged.proofs.PassLaws.{part_slots, get_map}
+use Rattle.switch_staged.proofs.pipeline.cell_in.Goals as goal
+
+pub look-requires : goal.look-requires
+look-requires c = subst (λ a. c.args.slot < length (cells_of a)) (sym c.index-arrays-at.is) (subst (λ n. c.args.slot < n) (sym (part_slots 5 c.args.slots c.args.arrays.now c.args.at c.index-arrays-at.result c.requires.part (omega (arith, c.requires.at, c.requires.count)))) c.requires.slot)
+
+pub returns : goal.returns
+returns c =
+    sym (get_or_from_slice_get _ c.args.slot c.look.result zero_cell c.look.ensures)
+    ∙ ap (λ a. slice_index_or (cells_of a) c.args.slot zero_cell) c.index-arrays-at.is
+    ∙ ap (λ x. slice_index_or x c.args.slot zero_cell) (sym (get_map c.args.arrays.now c.args.at c.index-arrays-at.result (omega (arith, c.requires.at, c.requires.count))))

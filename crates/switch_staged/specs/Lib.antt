@@ -1,0 +1,12 @@
+pub mod Rows
+pub mod Heads
+pub mod Shapes
+pub mod Stages
+pub mod Emits
+pub mod Whole
+pub mod Changes
+pub mod Staged
+pub mod Line
+pub mod Through
+pub mod Overlap
+pub mod Pipelined

@@ -1,0 +1,149 @@
+//! The stages of the bodies.
+ghost use Rattle.std.specs.Prelude.{◌≡◌, ◌+◌, ◌<◌, ◌≤◌, ◌^◌, ℕ, List, length, if◌then◌else◌, IfOk};
+ghost use Rattle.switch_staged.specs.Whole.{empty_arrays};
+ghost use Rattle.register_stages.specs.Arrays.{cells_of, place_of};
+ghost use Rattle.switch_staged.specs.Stages.{InReach, PlaceBelow, IsPart, all_cells, array_after, carried, cell_after as cell_left, arrays_after, carried_all};
+ghost use Rattle.switch_staged.specs.Heads.{writes as is_writing};
+
+use crate::cells::{BODY_CELLS, CELL_LENGTH, Cell};
+use crate::flight::{Act, Flight};
+use far_base::Memory;
+use register_stages::{PassToken, RegArray};
+use std::alloc::Global;
+
+impl Act {
+    /// Whether the cells of the body are written.
+    pub fn writes(&self) -> bool
+        ensures { result ≡ is_writing self.now }
+    {
+        match self {
+            Act::Absorb | Act::Bind | Act::Clear => true,
+            Act::Keep | Act::Raise => false,
+        }
+    }
+}
+
+impl Flight {
+    /// The cell that stage `at` of the body leaves.
+    #[tactic(auto, unfolding(crate::specs::Stages::cell_after))]
+    fn cell_after(&self, at: usize, old: Cell) -> Cell
+        requires { at < 32 }
+        ensures { result ≡ cell_left at self.now old }
+    {
+        if self.act.writes() {
+            self.cells[at]
+        } else {
+            old
+        }
+    }
+}
+
+/// Stage `at` of the body, counted from 0.
+pub fn pass_body(
+    array: &mut RegArray<Cell>,
+    token: &mut PassToken,
+    at: usize,
+    flight: Flight,
+) -> Flight
+    requires cell { InReach flight.place (cells_of array.old) }
+    requires at { at < 32 }
+    requires token { token.old ≤ place_of array.old }
+    requires place { place_of array.old + 1 < 2 ^ 32 }
+    ensures cells { cells_of array.new ≡ array_after at (cells_of array.old) flight }
+    ensures flight { result ≡ carried at (cells_of array.old) flight }
+    ensures token { token.new ≤ place_of array.old + 1 }
+    ensures place { place_of array.new ≡ place_of array.old }
+{
+    let Some(place) = flight.place else {
+        return flight;
+    };
+    let old = array.visit(
+        token,
+        place,
+        |cell|
+            requires { at < 32 }
+            ensures { result ≡ cell_left at flight cell }
+        { flight.cell_after(at, cell) },
+    );
+    let mut after = flight;
+    after.cells[at] = old;
+    after
+}
+
+/// All stages of the body, over the list.
+fn pass_arrays(
+    arrays: &mut [RegArray<Cell>],
+    token: &mut PassToken,
+    slots: u32,
+    flight: Flight,
+) -> Flight
+    requires cell { PlaceBelow flight.place slots }
+    requires count { length arrays.old ≡ 32 }
+    requires part { IsPart 5 slots arrays.old }
+    requires token { token.old ≤ 5 }
+    ensures cells { all_cells arrays.new ≡ arrays_after 0 (all_cells arrays.old) flight }
+    ensures flight { result ≡ carried_all 0 (all_cells arrays.old) flight }
+    ensures count { length arrays.new ≡ 32 }
+    ensures part { IsPart 5 slots arrays.new }
+{
+    let mut flight = flight;
+    for k in 0..arrays.len() {
+        flight = pass_body(&mut arrays[k], token, k, flight);
+    }
+    flight
+}
+
+/// All stages of the body.
+pub fn pass_bodies(
+    arrays: &mut Vec<RegArray<Cell>>,
+    token: &mut PassToken,
+    slots: u32,
+    flight: Flight,
+) -> Flight
+    requires cell { PlaceBelow flight.place slots }
+    requires count { length arrays.old.items ≡ 32 }
+    requires part { IsPart 5 slots arrays.old.items }
+    requires token { token.old ≤ 5 }
+    ensures cells { all_cells arrays.new.items ≡ arrays_after 0 (all_cells arrays.old.items) flight }
+    ensures flight { result ≡ carried_all 0 (all_cells arrays.old.items) flight }
+    ensures count { length arrays.new.items ≡ 32 }
+    ensures part { IsPart 5 slots arrays.new.items }
+{
+    pass_arrays(arrays, token, slots, flight)
+}
+
+/// The arrays of the bodies for so many slots, with zeros.
+pub fn empty_bodies(alloc: Global, slots: u32) -> Result<Vec<RegArray<Cell>>, Memory>
+    ensures cells { IfOk result (λ arrays. all_cells arrays.items ≡ empty_arrays slots) }
+    ensures count { IfOk result (λ arrays. length arrays.items ≡ 32) }
+    ensures part { IfOk result (λ arrays. IsPart 5 slots arrays.items) }
+{
+    let mut arrays = Vec::with_capacity(alloc, BODY_CELLS)?;
+    for k in 0..BODY_CELLS {
+        arrays.push_reserved(RegArray::new(alloc, 5 + k as u32, slots, [0; CELL_LENGTH])?);
+    }
+    Ok(arrays)
+}
+
+fn reset_arrays(arrays: &mut [RegArray<Cell>], slots: u32)
+    requires count { length arrays.old ≡ 32 }
+    requires part { IsPart 5 slots arrays.old }
+    ensures cells { all_cells arrays.new ≡ empty_arrays slots }
+    ensures count { length arrays.new ≡ 32 }
+    ensures part { IsPart 5 slots arrays.new }
+{
+    for k in 0..arrays.len() {
+        arrays[k].reset([0; CELL_LENGTH]);
+    }
+}
+
+/// All cells of the bodies become zeros.
+pub fn reset_bodies(arrays: &mut Vec<RegArray<Cell>>, slots: u32)
+    requires count { length arrays.old.items ≡ 32 }
+    requires part { IsPart 5 slots arrays.old.items }
+    ensures cells { all_cells arrays.new.items ≡ empty_arrays slots }
+    ensures count { length arrays.new.items ≡ 32 }
+    ensures part { IsPart 5 slots arrays.new.items }
+{
+    reset_arrays(arrays, slots);
+}
