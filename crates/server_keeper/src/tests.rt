@@ -1,3 +1,5 @@
+ghost use Rattle.std.specs.Prelude.{◌≡◌, IfOk};
+
 use super::*;
 use far_base::{Body, Key, Packet, Record};
 use far_outside::{Keeper, KeeperFault};
@@ -86,19 +88,20 @@ fn deleted(text: &[u8], num: u64) -> Result<Record, Fail> {
     })
 }
 
-fn filled(alloc: Global) -> Result<TableKeeper, Fail> {
+/// A table of three servers, with records at the second and at the third.
+fn filled(alloc: Global) -> Result<TableKeeper, Fail>
+    ensures { IfOk result (λ keeper. keeper.servers ≡ 3) }
+{
     let mut keeper = TableKeeper::new(alloc)?;
     keeper.begin(3).map_err(|_| "begin")?;
-    for (text, num) in [
-        (b"b".as_slice(), 3),
-        (b"ab".as_slice(), u64::MAX),
-        (b"a".as_slice(), 256),
-        (b"b".as_slice(), 2),
-        (b"c".as_slice(), 0),
-        (b"a".as_slice(), 255),
-    ] {
-        keeper.put(1, &record_of(text, num)?).map_err(|_| "put")?;
-    }
+    keeper.put(1, &record_of(b"b", 3)?).map_err(|_| "put")?;
+    keeper
+        .put(1, &record_of(b"ab", u64::MAX)?)
+        .map_err(|_| "put")?;
+    keeper.put(1, &record_of(b"a", 256)?).map_err(|_| "put")?;
+    keeper.put(1, &record_of(b"b", 2)?).map_err(|_| "put")?;
+    keeper.put(1, &record_of(b"c", 0)?).map_err(|_| "put")?;
+    keeper.put(1, &record_of(b"a", 255)?).map_err(|_| "put")?;
     keeper.put(1, &deleted(b"b", 4)?).map_err(|_| "put")?;
     keeper.put(2, &record_of(b"a", 7)?).map_err(|_| "put")?;
     Ok(keeper)

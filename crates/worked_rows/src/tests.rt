@@ -1,6 +1,7 @@
+use crate::calls::{answered, called};
 use crate::rows::ROWS;
 use far_outside::{CleanSink, CleanSource, Failed, MemSink, MemSource, Source};
-use run_main::{Ended, Limit, Status, top_calm};
+use run_main::{Ended, Limit, Status};
 use server_keeper::{MapKeeper, ScriptedKeeper};
 use std::alloc::Global;
 use std::process::Abort;
@@ -108,15 +109,6 @@ impl<S: Source> Source for OneByOne<S> {
     }
 }
 
-/// The arguments of a command line.
-pub(crate) fn words_of(alloc: Global, line: &str) -> Result<Vec<String>, Fail> {
-    let mut words = Vec::new(alloc);
-    for word in line.split(' ') {
-        words.push(String::from_str(alloc, word)?)?;
-    }
-    Ok(words)
-}
-
 /// The one answer of a call over memory, where nothing fails.
 pub(crate) fn expect(
     rt: &impl Abort,
@@ -126,15 +118,9 @@ pub(crate) fn expect(
     output: &[u8],
     expected: Status,
 ) -> Result<(), Fail> {
-    let words = words_of(alloc, line)?;
-    let mut source = CleanSource::new(input.to_vec(alloc)?);
-    let mut sink = CleanSink::new(alloc);
-    let Ended {
-        status,
-        keeper: _keeper,
-    } = top_calm(alloc, &words, &mut source, &mut sink, MapKeeper::new(alloc));
+    let (status, written) = answered(alloc, line, input)?;
     assert_eq!(rt; status, expected);
-    assert!(rt; sink.bytes() == output);
+    assert!(rt; written.as_slice() == output);
     Ok(())
 }
 
@@ -174,21 +160,15 @@ fn the_longest_body_is_taken(rt: HostRuntime) -> Result<(), Fail> {
     let alloc = rt.alloc();
     let head = ROWS[0].0.as_bytes();
     for (bytes, expected) in [(256, Status::Done), (257, Status::TooLarge(Limit::Body, 6))] {
-        let words = words_of(alloc, "replay")?;
         let mut input = head.to_vec(alloc)?;
         input.extend_from_slice(b"put 0 a =")?;
         for _ in 0..bytes {
             input.push(b'x')?;
         }
         input.push(10)?;
-        let mut source = CleanSource::new(input);
-        let mut sink = CleanSink::new(alloc);
-        let Ended {
-            status,
-            keeper: _keeper,
-        } = top_calm(alloc, &words, &mut source, &mut sink, MapKeeper::new(alloc));
+        let (status, written) = answered(alloc, "replay", &input)?;
         assert_eq!(rt; status, expected);
-        let refused = sink.bytes() == "too large body line 6\n".as_bytes();
+        let refused = written.as_slice() == "too large body line 6\n".as_bytes();
         assert_eq!(rt; refused, bytes == 257);
     }
     Ok(())
@@ -197,7 +177,6 @@ fn the_longest_body_is_taken(rt: HostRuntime) -> Result<(), Fail> {
 #[test]
 fn a_failed_read_or_write_is_the_answer(rt: HostRuntime) -> Result<(), Fail> {
     let alloc = rt.alloc();
-    let words = words_of(alloc, "replay")?;
     let input = ROWS[1].0.as_bytes();
     // The end of the input is seen by the second call.
     for (read, write, expected) in [
@@ -210,7 +189,13 @@ fn a_failed_read_or_write_is_the_answer(rt: HostRuntime) -> Result<(), Fail> {
         let Ended {
             status,
             keeper: _keeper,
-        } = top_calm(alloc, &words, &mut source, &mut sink, MapKeeper::new(alloc));
+        } = called(
+            alloc,
+            "replay",
+            &mut source,
+            &mut sink,
+            MapKeeper::new(alloc),
+        )?;
         assert_eq!(rt; status, expected);
         assert!(rt; sink.bytes().is_empty());
     }
@@ -222,20 +207,19 @@ fn a_failed_read_or_write_is_the_answer(rt: HostRuntime) -> Result<(), Fail> {
 #[test]
 fn a_failed_call_of_the_keeper_is_the_answer(rt: HostRuntime) -> Result<(), Fail> {
     let alloc = rt.alloc();
-    let words = words_of(alloc, "replay")?;
     let input = ROWS[1].0.as_bytes();
     for call in [1, 2, 3, 4] {
         let mut source = CleanSource::new(input.to_vec(alloc)?);
         let mut sink = CleanSink::new(alloc);
         let keeper = ScriptedKeeper::new(alloc, [call].to_vec(alloc)?);
-        let Ended { status, keeper } = top_calm(alloc, &words, &mut source, &mut sink, keeper);
+        let Ended { status, keeper } = called(alloc, "replay", &mut source, &mut sink, keeper)?;
         assert_eq!(rt; status, Status::KeeperFault);
         assert!(rt; sink.bytes().is_empty());
         let mut source = CleanSource::new(input.to_vec(alloc)?);
         let Ended {
             status,
             keeper: _keeper,
-        } = top_calm(alloc, &words, &mut source, &mut sink, keeper);
+        } = called(alloc, "replay", &mut source, &mut sink, keeper)?;
         assert_eq!(rt; status, Status::Done);
         assert!(rt; sink.bytes() == ROWS[1].1.as_bytes());
     }
@@ -245,7 +229,6 @@ fn a_failed_call_of_the_keeper_is_the_answer(rt: HostRuntime) -> Result<(), Fail
 #[test]
 fn bytes_may_come_one_by_one(rt: HostRuntime) -> Result<(), Fail> {
     let alloc = rt.alloc();
-    let words = words_of(alloc, "replay")?;
     let input = ROWS[1].0.as_bytes();
     // The thirtieth read stands in the middle of the input.
     for (fails, expected, output) in [(0, Status::Done, ROWS[1].1), (30, Status::ReadFault, "")] {
@@ -256,7 +239,13 @@ fn bytes_may_come_one_by_one(rt: HostRuntime) -> Result<(), Fail> {
         let Ended {
             status,
             keeper: _keeper,
-        } = top_calm(alloc, &words, &mut source, &mut sink, MapKeeper::new(alloc));
+        } = called(
+            alloc,
+            "replay",
+            &mut source,
+            &mut sink,
+            MapKeeper::new(alloc),
+        )?;
         assert_eq!(rt; status, expected);
         assert!(rt; sink.bytes() == output.as_bytes());
     }
