@@ -1,4 +1,4 @@
-ghost use Rattle.std.specs.Prelude.{◌≡◌, IfOk};
+ghost use Rattle.std.specs.Prelude.{◌≡◌, ◌<◌, IfOk};
 
 use super::*;
 use far_base::{Body, Key, Packet, Record};
@@ -88,22 +88,30 @@ fn deleted(text: &[u8], num: u64) -> Result<Record, Fail> {
     })
 }
 
+/// Puts a record at one of three servers.
+fn kept(keeper: &mut TableKeeper, server: u32, item: &Record) -> Result<(), Fail>
+    requires servers { keeper.old.servers ≡ 3 }
+    requires server { server < 3 }
+    ensures { keeper.new.servers ≡ 3 }
+{
+    keeper.put(server, item).map_err(|_| "put")?;
+    Ok(())
+}
+
 /// A table of three servers, with records at the second and at the third.
 fn filled(alloc: Global) -> Result<TableKeeper, Fail>
     ensures { IfOk result (λ keeper. keeper.servers ≡ 3) }
 {
     let mut keeper = TableKeeper::new(alloc)?;
     keeper.begin(3).map_err(|_| "begin")?;
-    keeper.put(1, &record_of(b"b", 3)?).map_err(|_| "put")?;
-    keeper
-        .put(1, &record_of(b"ab", u64::MAX)?)
-        .map_err(|_| "put")?;
-    keeper.put(1, &record_of(b"a", 256)?).map_err(|_| "put")?;
-    keeper.put(1, &record_of(b"b", 2)?).map_err(|_| "put")?;
-    keeper.put(1, &record_of(b"c", 0)?).map_err(|_| "put")?;
-    keeper.put(1, &record_of(b"a", 255)?).map_err(|_| "put")?;
-    keeper.put(1, &deleted(b"b", 4)?).map_err(|_| "put")?;
-    keeper.put(2, &record_of(b"a", 7)?).map_err(|_| "put")?;
+    kept(&mut keeper, 1, &record_of(b"b", 3)?)?;
+    kept(&mut keeper, 1, &record_of(b"ab", u64::MAX)?)?;
+    kept(&mut keeper, 1, &record_of(b"a", 256)?)?;
+    kept(&mut keeper, 1, &record_of(b"b", 2)?)?;
+    kept(&mut keeper, 1, &record_of(b"c", 0)?)?;
+    kept(&mut keeper, 1, &record_of(b"a", 255)?)?;
+    kept(&mut keeper, 1, &deleted(b"b", 4)?)?;
+    kept(&mut keeper, 2, &record_of(b"a", 7)?)?;
     Ok(keeper)
 }
 
