@@ -4,13 +4,14 @@ ghost use Rattle.far_base.specs.Key.{key_text};
 ghost use Rattle.far_text.specs.Text.{text_line, body_word};
 ghost use Rattle.far_history.specs.Told.{unheard, op_told, answer_told};
 ghost use Rattle.far_history.specs.RoomyLog.{log_view};
+ghost use Rattle.far_history.specs.Stored.{body_in};
 ghost use Rattle.far_history.specs.Report as words;
 ghost use Rattle.far_history.specs.Rows.{row_text, history_by_rows, stored_control, stored_text, control_by_stored};
 
 use crate::last_writes::last_writes;
 use crate::log::Log;
 use crate::places::places_in;
-use crate::stored::{Bare, Stored, body_at};
+use crate::stored::{Bare, Stored, Stretch, body_at};
 use crate::told::{Reply, Sending, Told, gather};
 use far_base::{Body, Key, Memory, Op, Placed, Record};
 use far_text::{Word, put_line, put_text};
@@ -139,19 +140,41 @@ fn put_record(out: &mut Vec<u8>, held: &Record) -> Result<(), Memory>
     )
 }
 
-/// Writes the line of a record of a snapshot.
-fn put_snap_item(out: &mut Vec<u8>, slot: u32, item: &Record) -> Result<(), Memory>
-    ensures { OnOk result (out.new.items ≡ out.old.items ++ text_line (decimal slot ∷ key_text item.now.key ∷ decimal item.now.num ∷ body_word item.now.body ∷ [])) }
+/// Writes the line of a record of a snapshot, whose body stands there.
+fn put_stored_item(
+    out: &mut Vec<u8>,
+    bytes: &[u8],
+    slot: u32,
+    key: &Key,
+    num: u64,
+    stretch: Stretch,
+) -> Result<(), Memory>
+    ensures { OnOk result (out.new.items ≡ out.old.items ++ text_line (decimal slot ∷ key_text key.now ∷ decimal num ∷ body_word (body_in bytes.now stretch) ∷ [])) }
 {
+    let body = body_at(bytes, stretch);
     put_line(
         out,
         &[
             Word::Number(u64::from(slot)),
-            Word::Key(&item.key),
-            Word::Number(item.num),
-            Word::Body(&item.body),
+            Word::Key(key),
+            Word::Number(num),
+            Word::Body(&body),
         ],
     )
+}
+
+/// Writes the line of a record, whose body stands there.
+fn put_stored_record(
+    out: &mut Vec<u8>,
+    bytes: &[u8],
+    key: &Key,
+    num: u64,
+    stretch: Stretch,
+) -> Result<(), Memory>
+    ensures { OnOk result (out.new.items ≡ out.old.items ++ text_line (key_text key.now ∷ decimal num ∷ body_word (body_in bytes.now stretch) ∷ [])) }
+{
+    let body = body_at(bytes, stretch);
+    put_line(out, &[Word::Key(key), Word::Number(num), Word::Body(&body)])
 }
 
 /// Writes the line of a completed snapshot.
@@ -209,15 +232,11 @@ fn put_entry(out: &mut Vec<u8>, bytes: &[u8], line: &Stored) -> Result<(), Memor
             ..
         } => put_snapshot(out, moment, id, point, count),
         Bare::SnapItem { slot, key, num } => {
-            let body = body_at(bytes, line.body);
-            put_snap_item(out, slot, &Record { key, num, body })
+            put_stored_item(out, bytes, slot, &key, num, line.body)
         }
         Bare::Stopped => put_count(out, b"stopped", moment),
         Bare::Recovered { counter, count } => put_recovery(out, moment, counter, count),
-        Bare::RecItem { key, num } => {
-            let body = body_at(bytes, line.body);
-            put_record(out, &Record { key, num, body })
-        }
+        Bare::RecItem { key, num } => put_stored_record(out, bytes, &key, num, line.body),
         _ => Ok(()),
     }
 }

@@ -12,10 +12,10 @@ fn put(wire: &mut Wire, packet: &Packet)
     ensures spelled { Spells wire.new packet.now }
     ensures short { length wire.new ≤ PACKET_LIMIT }
 {
-    match *packet {
+    match packet {
         Packet::GetReq { caller, op, key } => {
             wire.begin(kinds::GET_REQ);
-            wire.call(caller, op, &key);
+            wire.call(*caller, *op, key);
         }
         Packet::WriteReq {
             caller,
@@ -24,8 +24,8 @@ fn put(wire: &mut Wire, packet: &Packet)
             body,
         } => {
             wire.begin(kinds::WRITE_REQ);
-            wire.call(caller, op, &key);
-            wire.body(&body);
+            wire.call(*caller, *op, key);
+            wire.body(body);
         }
         Packet::GetFwd {
             caller,
@@ -34,8 +34,8 @@ fn put(wire: &mut Wire, packet: &Packet)
             tag,
         } => {
             wire.begin(kinds::GET_FWD);
-            wire.call(caller, op, &key);
-            wire.u64(tag);
+            wire.call(*caller, *op, key);
+            wire.u64(*tag);
         }
         Packet::WriteFwd {
             caller,
@@ -45,9 +45,9 @@ fn put(wire: &mut Wire, packet: &Packet)
             body,
         } => {
             wire.begin(kinds::WRITE_FWD);
-            wire.call(caller, op, &key);
-            wire.u64(num);
-            wire.body(&body);
+            wire.call(*caller, *op, key);
+            wire.u64(*num);
+            wire.body(body);
         }
         Packet::GetRep {
             caller,
@@ -58,10 +58,10 @@ fn put(wire: &mut Wire, packet: &Packet)
             body,
         } => {
             wire.begin(kinds::GET_REP);
-            wire.call(caller, op, &key);
-            wire.u64(tag);
-            wire.u64(num);
-            wire.body(&body);
+            wire.call(*caller, *op, key);
+            wire.u64(*tag);
+            wire.u64(*num);
+            wire.body(body);
         }
         Packet::WriteRep {
             caller,
@@ -71,9 +71,9 @@ fn put(wire: &mut Wire, packet: &Packet)
             body,
         } => {
             wire.begin(kinds::WRITE_REP);
-            wire.call(caller, op, &key);
-            wire.u64(num);
-            wire.body(&body);
+            wire.call(*caller, *op, key);
+            wire.u64(*num);
+            wire.body(body);
         }
         Packet::GetAns {
             caller,
@@ -84,10 +84,10 @@ fn put(wire: &mut Wire, packet: &Packet)
             near,
         } => {
             wire.begin(kinds::GET_ANS);
-            wire.call(caller, op, &key);
-            wire.u64(num);
-            wire.body(&body);
-            wire.flag(near);
+            wire.call(*caller, *op, key);
+            wire.u64(*num);
+            wire.body(body);
+            wire.flag(*near);
         }
         Packet::WriteAns {
             caller,
@@ -97,13 +97,13 @@ fn put(wire: &mut Wire, packet: &Packet)
             kept,
         } => {
             wire.begin(kinds::WRITE_ANS);
-            wire.call(caller, op, &key);
-            wire.u64(num);
-            wire.flag(kept);
+            wire.call(*caller, *op, key);
+            wire.u64(*num);
+            wire.flag(*kept);
         }
         Packet::Hot { key } => {
             wire.begin(kinds::HOT);
-            wire.key(&key);
+            wire.key(key);
         }
         Packet::Admit {
             epoch,
@@ -112,21 +112,21 @@ fn put(wire: &mut Wire, packet: &Packet)
             tag,
         } => {
             wire.begin(kinds::ADMIT);
-            wire.u32(epoch);
-            wire.u32(slot);
-            wire.key(&key);
-            wire.u64(tag);
+            wire.u32(*epoch);
+            wire.u32(*slot);
+            wire.key(key);
+            wire.u64(*tag);
         }
         Packet::AdmitAck { slot, tag } => {
             wire.begin(kinds::ADMIT_ACK);
-            wire.u32(slot);
-            wire.u64(tag);
+            wire.u32(*slot);
+            wire.u64(*tag);
         }
         Packet::Peek { epoch, slot, tag } => {
             wire.begin(kinds::PEEK);
-            wire.u32(epoch);
-            wire.u32(slot);
-            wire.u64(tag);
+            wire.u32(*epoch);
+            wire.u32(*slot);
+            wire.u64(*tag);
         }
         Packet::PeekAns {
             slot,
@@ -136,11 +136,11 @@ fn put(wire: &mut Wire, packet: &Packet)
             body,
         } => {
             wire.begin(kinds::PEEK_ANS);
-            wire.u32(slot);
-            wire.u64(tag);
-            wire.flag(latest);
-            wire.u64(num);
-            wire.body(&body);
+            wire.u32(*slot);
+            wire.u64(*tag);
+            wire.flag(*latest);
+            wire.u64(*num);
+            wire.body(body);
         }
         Packet::Remove {
             epoch,
@@ -150,11 +150,11 @@ fn put(wire: &mut Wire, packet: &Packet)
             num,
         } => {
             wire.begin(kinds::REMOVE);
-            wire.u32(epoch);
-            wire.u32(slot);
-            wire.u64(tag);
-            wire.flag(latest);
-            wire.u64(num);
+            wire.u32(*epoch);
+            wire.u32(*slot);
+            wire.u64(*tag);
+            wire.flag(*latest);
+            wire.u64(*num);
         }
         Packet::RemoveAns {
             slot,
@@ -165,51 +165,51 @@ fn put(wire: &mut Wire, packet: &Packet)
             body,
         } => {
             wire.begin(kinds::REMOVE_ANS);
-            wire.u32(slot);
-            wire.u64(tag);
-            wire.flag(done);
-            wire.flag(latest);
-            wire.u64(num);
-            wire.body(&body);
+            wire.u32(*slot);
+            wire.u64(*tag);
+            wire.flag(*done);
+            wire.flag(*latest);
+            wire.u64(*num);
+            wire.body(body);
         }
         Packet::SnapStart { epoch, id } => {
             wire.begin(kinds::SNAP_START);
-            wire.u32(epoch);
-            wire.u32(id);
+            wire.u32(*epoch);
+            wire.u32(*id);
         }
         Packet::SnapBegun { id, point } => {
             wire.begin(kinds::SNAP_BEGUN);
-            wire.u32(id);
-            wire.u64(point);
+            wire.u32(*id);
+            wire.u64(*point);
         }
         Packet::SnapRead { epoch, id, slot } => {
             wire.begin(kinds::SNAP_READ);
-            wire.u32(epoch);
-            wire.u32(id);
-            wire.u32(slot);
+            wire.u32(*epoch);
+            wire.u32(*id);
+            wire.u32(*slot);
         }
         Packet::SnapPart { id, slot, view } => {
             wire.begin(kinds::SNAP_PART);
-            wire.u32(id);
-            wire.u32(slot);
-            wire.held(&view);
+            wire.u32(*id);
+            wire.u32(*slot);
+            wire.held(view);
         }
         Packet::Store { job, item } => {
             wire.begin(kinds::STORE);
-            wire.u64(job);
-            wire.rec(&item);
+            wire.u64(*job);
+            wire.rec(item);
         }
         Packet::Stored { job } => {
             wire.begin(kinds::STORED);
-            wire.u64(job);
+            wire.u64(*job);
         }
         Packet::Release { point } => {
             wire.begin(kinds::RELEASE);
-            wire.u64(point);
+            wire.u64(*point);
         }
         Packet::Ask { round } => {
             wire.begin(kinds::ASK);
-            wire.u32(round);
+            wire.u32(*round);
         }
         Packet::Told {
             round,
@@ -218,31 +218,31 @@ fn put(wire: &mut Wire, packet: &Packet)
             item,
         } => {
             wire.begin(kinds::TOLD);
-            wire.u32(round);
-            wire.u32(caller);
-            wire.u32(total);
-            wire.held(&item);
+            wire.u32(*round);
+            wire.u32(*caller);
+            wire.u32(*total);
+            wire.held(item);
         }
         Packet::TopAsk { round } => {
             wire.begin(kinds::TOP_ASK);
-            wire.u32(round);
+            wire.u32(*round);
         }
         Packet::TopIs { round, server, top } => {
             wire.begin(kinds::TOP_IS);
-            wire.u32(round);
-            wire.u32(server);
-            wire.u64(top);
+            wire.u32(*round);
+            wire.u32(*server);
+            wire.u64(*top);
         }
         Packet::SnapSame { id, slot } => {
             wire.begin(kinds::SNAP_SAME);
-            wire.u32(id);
-            wire.u32(slot);
+            wire.u32(*id);
+            wire.u32(*slot);
         }
         Packet::SnapFrom { epoch, id, base } => {
             wire.begin(kinds::SNAP_FROM);
-            wire.u32(epoch);
-            wire.u32(id);
-            wire.u32(base);
+            wire.u32(*epoch);
+            wire.u32(*id);
+            wire.u32(*base);
         }
     }
 }

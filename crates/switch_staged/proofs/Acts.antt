@@ -21,10 +21,10 @@ use Rattle.switch_staged.proofs.HitLaws.{old_taken}
 use Rattle.switch_staged.proofs.KindLaws.{own_passes, row_bytes, slot_at_is}
 
 abbrev pub met_as : Act → Head → Flight → Flight
-met_as a h f = record f { old = h; act = a; cells = cells_of_body (body_after a f.packet) }
+met_as a h f = record f { found = h; act = a; cells = cells_of_body (body_after a f.packet) }
 
 abbrev pub landed_as : Act → Registers → ℕ → Flight → Flight
-landed_as a r i f = record f { old = head_at r.heads i; act = a; part = part_for (met_as a (head_at r.heads i) f) (old_taken r i); hot = false; cells = row i r.arrays }
+landed_as a r i f = record f { found = head_at r.heads i; act = a; part = part_for (met_as a (head_at r.heads i) f) (old_taken r i); hot = false; cells = row i r.arrays }
 
 abbrev pub slot_as : Act → Registers → ℕ → Flight → SlotView
 slot_as a r i f = slot_of (acted a f.gate.counter f.packet (head_at r.heads i)) (joined (bytes_left (cells_of_body (body_after a f.packet)) (row i r.arrays) (writes a)))

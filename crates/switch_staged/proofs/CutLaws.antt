@@ -36,7 +36,7 @@ row_zeros : (n k i : ℕ) → row i (replicate k (replicate n zero_cell)) ≡ re
 row_zeros n zero i = refl
 row_zeros n (suc k) i = ap (λ c. c ∷ row i (replicate k (replicate n zero_cell))) (one_of_replicate n i zero_cell) ∙ ap (λ r. zero_cell ∷ r) (row_zeros n k i)
 
-zeros_are_cut : replicate BODY_CELLS zero_cell ≡ cells_of_body None
+pub zeros_are_cut : replicate BODY_CELLS zero_cell ≡ cells_of_body None
 unfolding cells_of_body cut_cells
 zeros_are_cut = refl
 

@@ -41,13 +41,13 @@ Left v i old slot f t out = record {
 abbrev pub in_time : SwitchView → Flight → SwitchView
 in_time v f = record v { snap = f.gate.snap; base = f.gate.base }
 
-base_is : (v : SwitchView) (f : Flight) (t : Taken) (bytes : List ℕ) → is_base f t ≡ before_at (in_time v f) (slot_of f.old bytes) t.era t.mark
+base_is : (v : SwitchView) (f : Flight) (t : Taken) (bytes : List ℕ) → is_base f t ≡ before_at (in_time v f) (slot_of f.found bytes) t.era t.mark
 unfolding is_base
-base_is v f t bytes = ap (λ m. nat_lt 0 f.gate.base && (nat_eq t.era f.gate.base && same_mark t.mark m)) (mark_is f.old bytes)
+base_is v f t bytes = ap (λ m. nat_lt 0 f.gate.base && (nat_eq t.era f.gate.base && same_mark t.mark m)) (mark_is f.found bytes)
 
 abbrev pub Flagged : SwitchView → ℕ → Flight → Taken → SlotView → SlotView → Option Out → Bool → Passed
 Flagged v i f t slot old out leaves = record {
-  view = record (in_time v f) { slots = slice_set v.slots i slot; taken = slice_set v.taken i (if leaves then record { era = f.gate.snap; mark = head_mark f.old } else t).era; shown = slice_set v.shown i (if leaves then record { era = f.gate.snap; mark = head_mark f.old } else t).mark };
+  view = record (in_time v f) { slots = slice_set v.slots i slot; taken = slice_set v.taken i (if leaves then record { era = f.gate.snap; mark = head_mark f.found } else t).era; shown = slice_set v.shown i (if leaves then record { era = f.gate.snap; mark = head_mark f.found } else t).mark };
   first = out;
   second = part_out f.gate.snap (Some i) (if leaves then (if is_base f t then Same else Whole) else Stays) old;
 }
@@ -64,21 +64,21 @@ one_part v i old true = refl
 one_part v i old false = refl
 
 changed_at : (v : SwitchView) (i : ℕ) (f : Flight) (t : Taken) (slot : SlotView) (bytes : List ℕ) (out : Option Out) → slice_index_or v.taken i 0 ≡ t.era → slice_index_or v.shown i None ≡ t.mark
-    → (e : Bool) → Flagged v i f t slot (slot_of f.old bytes) out (not e) ≡ Other v i f t slot (slot_of f.old bytes) out e
+    → (e : Bool) → Flagged v i f t slot (slot_of f.found bytes) out (not e) ≡ Other v i f t slot (slot_of f.found bytes) out e
 changed_at v i f t slot bytes out et mt true =
     ap (λ es. record { view = record (in_time v f) { slots = slice_set v.slots i slot; taken = es; shown = slice_set v.shown i t.mark }; first = out; second = None }) (ap (slice_set v.taken i) (sym et) ∙ set_same v.taken i 0)
     ∙ ap (λ ms. record { view = record (in_time v f) { slots = slice_set v.slots i slot; shown = ms }; first = out; second = None }) (ap (slice_set v.shown i) (sym mt) ∙ set_same v.shown i None)
 changed_at v i f t slot bytes out et mt false =
-    ap (λ m. record { view = record (in_time v f) { slots = slice_set v.slots i slot; taken = slice_set v.taken i f.gate.snap; shown = slice_set v.shown i m }; first = out; second = part_out f.gate.snap (Some i) (if is_base f t then Same else Whole) (slot_of f.old bytes) }) (mark_is f.old bytes)
-    ∙ ap (λ s. record { view = with_taken (with_slot (in_time v f) i slot) i (held_record (slot_of f.old bytes)); first = out; second = s })
-    (ap (λ k. part_out f.gate.snap (Some i) (if k then Same else Whole) (slot_of f.old bytes)) (base_is v f t bytes) ∙ one_part (in_time v f) i (slot_of f.old bytes) _)
+    ap (λ m. record { view = record (in_time v f) { slots = slice_set v.slots i slot; taken = slice_set v.taken i f.gate.snap; shown = slice_set v.shown i m }; first = out; second = part_out f.gate.snap (Some i) (if is_base f t then Same else Whole) (slot_of f.found bytes) }) (mark_is f.found bytes)
+    ∙ ap (λ s. record { view = with_taken (with_slot (in_time v f) i slot) i (held_record (slot_of f.found bytes)); first = out; second = s })
+    (ap (λ k. part_out f.gate.snap (Some i) (if k then Same else Whole) (slot_of f.found bytes)) (base_is v f t bytes) ∙ one_part (in_time v f) i (slot_of f.found bytes) _)
 
 pub changed : (v : SwitchView) (i : ℕ) (f : Flight) (t : Taken) (slot : SlotView) (bytes : List ℕ) (out : Option Out) → wants_part f f.packet ≡ true
     → slice_index_or v.taken i 0 ≡ t.era → slice_index_or v.shown i None ≡ t.mark
-    → Left (in_time v f) i (slot_of f.old bytes) slot f t out ≡ changes_at (in_time v f) i (slot_of f.old bytes) t.era t.mark slot out
+    → Left (in_time v f) i (slot_of f.found bytes) slot f t out ≡ changes_at (in_time v f) i (slot_of f.found bytes) t.era t.mark slot out
 unfolding taken_after
 changed v i f t slot bytes out w et mt =
-    ap (λ b. Flagged v i f t slot (slot_of f.old bytes) out (b && not (nat_eq t.era f.gate.snap))) w
+    ap (λ b. Flagged v i f t slot (slot_of f.found bytes) out (b && not (nat_eq t.era f.gate.snap))) w
     ∙ changed_at v i f t slot bytes out et mt (nat_eq t.era f.gate.snap)
 
 pub unchanged : (v : SwitchView) (i : ℕ) (f : Flight) (t : Taken) (slot old : SlotView) (out : Option Out) → wants_part f f.packet ≡ false

@@ -29,7 +29,7 @@ slot_of h bytes = record {
 
 -- what the slot was
 abbrev pub old_slot : Flight → SlotView
-old_slot f = slot_of f.old (joined f.cells)
+old_slot f = slot_of f.found (joined f.cells)
 
 abbrev pub is_clear : Act → Bool
 is_clear Keep = false
@@ -67,7 +67,7 @@ first_for config f (GetReq caller op key) = read_out config f.place caller op ke
 first_for config f (WriteReq caller op key body) = write_out config f.place caller op key f.gate.counter body
 first_for config f (GetRep caller op key tag num body) = sent_to (Client caller) (GetAns caller op key num body false)
 first_for config f (WriteRep caller op key num body) = sent_to (Client caller) (WriteAns caller op key num false)
-first_for config f (Admit epoch i key tag) = if f.old.valid then None else sent_to Controller (AdmitAck i tag)
+first_for config f (Admit epoch i key tag) = if f.found.valid then None else sent_to Controller (AdmitAck i tag)
 first_for config f (Peek epoch i tag) = peek_out i tag (old_slot f)
 first_for config f (Remove epoch i tag latest num) = removed_answer i tag (is_clear f.act) (old_slot f)
 first_for config f (SnapStart epoch id) = sent_to Controller (SnapBegun id f.gate.counter)

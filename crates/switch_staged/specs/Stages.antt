@@ -35,7 +35,7 @@ entered config g packet = record {
   live = goes_on config g packet;
   gate = gate_after g packet;
   place = None;
-  old = empty_head;
+  found = empty_head;
   act = Keep;
   part = Stays;
   hot = false;
@@ -69,7 +69,7 @@ heads_after heads f = heads_at heads f.place f
 -- the packet has met its slot
 abbrev pub met : Head → Flight → Flight
 met h f = record f {
-  old = h;
+  found = h;
   act = act_for f.packet h;
   cells = cells_of_body (body_after
       (act_for f.packet h) f.packet);
@@ -102,7 +102,7 @@ changes_record Clear h = h.latest
 -- whether the slot's part is to leave, where it was not taken
 unfoldable pub wants_part : Flight → Packet → Bool
 wants_part f (SnapRead epoch id slot) = nat_eq id f.gate.snap
-wants_part f packet = changes_record f.act f.old
+wants_part f packet = changes_record f.act f.found
 
 abbrev pub mark_of_key : Option (List ℕ) → ℕ → Option Mark
 mark_of_key None num = None
@@ -116,13 +116,13 @@ abbrev pub leaves_now : Flight → Taken → Bool
 leaves_now f t = wants_part f f.packet && not (nat_eq t.era f.gate.snap)
 
 unfoldable pub is_base : Flight → Taken → Bool
-is_base f t = nat_lt 0 f.gate.base && (nat_eq t.era f.gate.base && same_mark t.mark (head_mark f.old))
+is_base f t = nat_lt 0 f.gate.base && (nat_eq t.era f.gate.base && same_mark t.mark (head_mark f.found))
 
 abbrev pub part_for : Flight → Taken → Part
 part_for f t = if leaves_now f t then (if is_base f t then Same else Whole) else Stays
 
 unfoldable pub taken_after : Flight → Taken → Taken
-taken_after f t = if leaves_now f t then record { era = f.gate.snap; mark = head_mark f.old } else t
+taken_after f t = if leaves_now f t then record { era = f.gate.snap; mark = head_mark f.found } else t
 
 abbrev pub no_taken : Taken
 no_taken = record { era = 0; mark = None }

@@ -1,5 +1,6 @@
 //! The stages of the bodies.
-ghost use Rattle.std.specs.Prelude.{◌≡◌, ◌+◌, ◌<◌, ◌≤◌, ◌^◌, ℕ, List, length, if◌then◌else◌, IfOk};
+ghost use Rattle.std.specs.Prelude.{◌≡◌, ◌+◌, ◌<◌, ◌≤◌, ◌^◌, ℕ, List, length, slice_index_or, slice_set, if◌then◌else◌, IfOk};
+ghost use Rattle.switch_staged.specs.Rows.{zero_cell};
 ghost use Rattle.switch_staged.specs.Whole.{empty_arrays};
 ghost use Rattle.register_stages.specs.Arrays.{cells_of, place_of};
 ghost use Rattle.switch_staged.specs.Stages.{InReach, PlaceBelow, IsPart, all_cells, array_after, carried, cell_after as cell_left, arrays_after, carried_all};
@@ -38,36 +39,50 @@ impl Flight {
     }
 }
 
-/// Stage `at` of the body, counted from 0.
-pub fn pass_body(
+/// Stage `at` of the body is visited at a slot, whose cell it had is the answer.
+fn visit_body(
     array: &mut RegArray<Cell>,
     token: &mut PassToken,
     at: usize,
-    flight: Flight,
-) -> Flight
-    requires cell { InReach flight.place (cells_of array.old) }
+    place: u32,
+    flight: &Flight,
+) -> Cell
+    requires cell { place < length (cells_of array.old) }
     requires at { at < 32 }
     requires token { token.old ≤ place_of array.old }
     requires place { place_of array.old + 1 < 2 ^ 32 }
-    ensures cells { cells_of array.new ≡ array_after at (cells_of array.old) flight }
-    ensures flight { result ≡ carried at (cells_of array.old) flight }
+    ensures cells { cells_of array.new ≡ slice_set (cells_of array.old) place
+        (cell_left at flight.now (slice_index_or (cells_of array.old) place zero_cell)) }
+    ensures old { result ≡ slice_index_or (cells_of array.old) place zero_cell }
     ensures token { token.new ≤ place_of array.old + 1 }
     ensures place { place_of array.new ≡ place_of array.old }
 {
-    let Some(place) = flight.place else {
-        return flight;
-    };
-    let old = array.visit(
+    array.visit(
         token,
         place,
         |cell|
             requires { at < 32 }
-            ensures { result ≡ cell_left at flight cell }
+            ensures { result ≡ cell_left at flight.entry.now cell }
         { flight.cell_after(at, cell) },
-    );
-    let mut after = flight;
-    after.cells[at] = old;
-    after
+    )
+}
+
+/// Stage `at` of the body, counted from 0.
+pub fn pass_body(array: &mut RegArray<Cell>, token: &mut PassToken, at: usize, flight: &mut Flight)
+    requires cell { InReach flight.old.place (cells_of array.old) }
+    requires at { at < 32 }
+    requires token { token.old ≤ place_of array.old }
+    requires place { place_of array.old + 1 < 2 ^ 32 }
+    ensures cells { cells_of array.new ≡ array_after at (cells_of array.old) flight.old }
+    ensures flight { flight.new ≡ carried at (cells_of array.old) flight.old }
+    ensures token { token.new ≤ place_of array.old + 1 }
+    ensures place { place_of array.new ≡ place_of array.old }
+{
+    let Some(place) = flight.place else {
+        return;
+    };
+    let old = visit_body(array, token, at, place, flight);
+    flight.cells[at] = old;
 }
 
 /// All stages of the body, over the list.
@@ -75,41 +90,42 @@ fn pass_arrays(
     arrays: &mut [RegArray<Cell>],
     token: &mut PassToken,
     slots: u32,
-    flight: Flight,
-) -> Flight
-    requires cell { PlaceBelow flight.place slots }
+    flight: &mut Flight,
+)
+    requires cell { PlaceBelow flight.old.place slots }
     requires count { length arrays.old ≡ 32 }
     requires part { IsPart 5 slots arrays.old }
     requires token { token.old ≤ 5 }
-    ensures cells { all_cells arrays.new ≡ arrays_after 0 (all_cells arrays.old) flight }
-    ensures flight { result ≡ carried_all 0 (all_cells arrays.old) flight }
+    ensures cells { all_cells arrays.new ≡ arrays_after 0 (all_cells arrays.old) flight.old }
+    ensures flight { flight.new ≡ carried_all 0 (all_cells arrays.old) flight.old }
     ensures count { length arrays.new ≡ 32 }
     ensures part { IsPart 5 slots arrays.new }
 {
-    let mut flight = flight;
     for k in 0..arrays.len() {
-        flight = pass_body(&mut arrays[k], token, k, flight);
+        pass_body(&mut arrays[k], token, k, flight);
     }
-    flight
 }
 
-/// All stages of the body.
+/// All stages of the body. A flight that goes to no slot passes them untouched.
+#[tactic(auto, using(crate::proofs::SlotLaws::writes_nothing, crate::proofs::SlotLaws::carries_nothing))]
 pub fn pass_bodies(
     arrays: &mut Vec<RegArray<Cell>>,
     token: &mut PassToken,
     slots: u32,
-    flight: Flight,
-) -> Flight
-    requires cell { PlaceBelow flight.place slots }
+    flight: &mut Flight,
+)
+    requires cell { PlaceBelow flight.old.place slots }
     requires count { length arrays.old.items ≡ 32 }
     requires part { IsPart 5 slots arrays.old.items }
     requires token { token.old ≤ 5 }
-    ensures cells { all_cells arrays.new.items ≡ arrays_after 0 (all_cells arrays.old.items) flight }
-    ensures flight { result ≡ carried_all 0 (all_cells arrays.old.items) flight }
+    ensures cells { all_cells arrays.new.items ≡ arrays_after 0 (all_cells arrays.old.items) flight.old }
+    ensures flight { flight.new ≡ carried_all 0 (all_cells arrays.old.items) flight.old }
     ensures count { length arrays.new.items ≡ 32 }
     ensures part { IsPart 5 slots arrays.new.items }
 {
-    pass_arrays(arrays, token, slots, flight)
+    if flight.place.is_some() {
+        pass_arrays(arrays, token, slots, flight);
+    }
 }
 
 /// The arrays of the bodies for so many slots, with zeros.

@@ -30,14 +30,14 @@ impl Flight {
     fn old_body(&self) -> Body
         ensures { result ≡ (spec.old_slot self.now).body }
     {
-        self.old.shape.body(&join_cells(&self.cells))
+        self.found.shape.body(&join_cells(&self.cells))
     }
 
     /// The body that the slot shows.
     fn shown_body(&self) -> Body
         ensures { result ≡ view.shown_body (spec.old_slot self.now) }
     {
-        if self.old.latest {
+        if self.found.latest {
             self.old_body()
         } else {
             Body::absent()
@@ -48,13 +48,13 @@ impl Flight {
     fn held_record(&self) -> Option<Record>
         ensures { result ≡ view.held_record (spec.old_slot self.now) }
     {
-        if !self.old.latest {
+        if !self.found.latest {
             return None;
         }
-        match self.old.key {
+        match self.found.key {
             Some(key) => Some(Record {
                 key,
-                num: self.old.num,
+                num: self.found.num,
                 body: self.old_body(),
             }),
             None => None,
@@ -64,7 +64,7 @@ impl Flight {
     fn is_under(&self, tag: u64) -> bool
         ensures { result ≡ model.is_under tag (spec.old_slot self.now) }
     {
-        self.old.valid && self.old.tag == tag
+        self.found.valid && self.found.tag == tag
     }
 
     fn part_out(&self) -> Option<Out>
@@ -101,8 +101,8 @@ impl Flight {
                 },
             );
         }
-        if !self.old.latest {
-            let tag = self.old.tag;
+        if !self.found.latest {
+            let tag = self.found.tag;
             return sent_to(
                 server_of(config, &key),
                 Packet::GetFwd {
@@ -114,7 +114,7 @@ impl Flight {
             );
         }
         let body = self.old_body();
-        let num = self.old.num;
+        let num = self.found.num;
         sent_to(
             Party::Client(caller),
             Packet::GetAns {
@@ -128,9 +128,9 @@ impl Flight {
         )
     }
 
-    fn write_out(&self, config: &Config, caller: u32, op: u32, key: Key, body: Body) -> Option<Out>
+    fn write_out(&self, config: &Config, caller: u32, op: u32, key: Key, body: &Body) -> Option<Out>
         requires { 0 < config.now.servers }
-        ensures { result ≡ spec.write_out config.now self.now.place caller op key self.now.gate.counter body }
+        ensures { result ≡ spec.write_out config.now self.now.place caller op key self.now.gate.counter body.now }
     {
         let num = self.gate.counter;
         if self.place.is_none() {
@@ -141,7 +141,7 @@ impl Flight {
                     op,
                     key,
                     num,
-                    body,
+                    body: *body,
                 },
             );
         }
@@ -173,7 +173,7 @@ impl Flight {
                 },
             );
         }
-        let (latest, num, body) = (self.old.latest, self.old.num, self.shown_body());
+        let (latest, num, body) = (self.found.latest, self.found.num, self.shown_body());
         sent_to(
             Party::Controller,
             Packet::PeekAns {
@@ -203,7 +203,7 @@ impl Flight {
                 },
             );
         }
-        let (latest, num, body) = (self.old.latest, self.old.num, self.shown_body());
+        let (latest, num, body) = (self.found.latest, self.found.num, self.shown_body());
         sent_to(
             Party::Controller,
             Packet::RemoveAns {
@@ -218,9 +218,9 @@ impl Flight {
     }
 
     fn admit_out(&self, slot: u32, tag: u64) -> Option<Out>
-        ensures { result ≡ (if self.now.old.valid then None else model.sent_to Controller (AdmitAck slot tag)) }
+        ensures { result ≡ (if self.now.found.valid then None else model.sent_to Controller (AdmitAck slot tag)) }
     {
-        if self.old.valid {
+        if self.found.valid {
             return None;
         }
         sent_to(Party::Controller, Packet::AdmitAck { slot, tag })
@@ -232,15 +232,14 @@ impl Flight {
         requires { 0 < config.now.servers }
         ensures { result ≡ spec.first_for config.now self.now self.now.packet }
     {
-        let counter = self.gate.counter;
-        match self.packet {
-            Packet::GetReq { caller, op, key } => self.read_out(config, caller, op, key),
+        match &self.packet {
+            Packet::GetReq { caller, op, key } => self.read_out(config, *caller, *op, *key),
             Packet::WriteReq {
                 caller,
                 op,
                 key,
                 body,
-            } => self.write_out(config, caller, op, key, body),
+            } => self.write_out(config, *caller, *op, *key, body),
             Packet::GetRep {
                 caller,
                 op,
@@ -250,13 +249,13 @@ impl Flight {
                 ..
             } => {
                 sent_to(
-                    Party::Client(caller),
+                    Party::Client(*caller),
                     Packet::GetAns {
-                        caller,
-                        op,
-                        key,
-                        num,
-                        body,
+                        caller: *caller,
+                        op: *op,
+                        key: *key,
+                        num: *num,
+                        body: *body,
                         near: false,
                     },
                 )
@@ -269,21 +268,29 @@ impl Flight {
                 ..
             } => {
                 sent_to(
-                    Party::Client(caller),
+                    Party::Client(*caller),
                     Packet::WriteAns {
-                        caller,
-                        op,
-                        key,
-                        num,
+                        caller: *caller,
+                        op: *op,
+                        key: *key,
+                        num: *num,
                         kept: false,
                     },
                 )
             }
-            Packet::Admit { slot, tag, .. } => self.admit_out(slot, tag),
-            Packet::Peek { slot, tag, .. } => self.peek_out(slot, tag),
-            Packet::Remove { slot, tag, .. } => self.remove_out(slot, tag, self.act.is_clear()),
+            Packet::Admit { slot, tag, .. } => self.admit_out(*slot, *tag),
+            Packet::Peek { slot, tag, .. } => self.peek_out(*slot, *tag),
+            Packet::Remove { slot, tag, .. } => {
+                self.remove_out(*slot, *tag, self.act.is_clear())
+            }
             Packet::SnapStart { id, .. } | Packet::SnapFrom { id, .. } => {
-                sent_to(Party::Controller, Packet::SnapBegun { id, point: counter })
+                sent_to(
+                    Party::Controller,
+                    Packet::SnapBegun {
+                        id: *id,
+                        point: self.gate.counter,
+                    },
+                )
             }
             Packet::SnapRead { .. } => self.part_out(),
             _ => None,
@@ -307,8 +314,8 @@ impl Flight {
     fn second_for(&self) -> Option<Out>
         ensures { result ≡ spec.second_for self.now self.now.packet }
     {
-        match self.packet {
-            Packet::GetReq { key, .. } | Packet::WriteReq { key, .. } => self.hot_or_part(key),
+        match &self.packet {
+            Packet::GetReq { key, .. } | Packet::WriteReq { key, .. } => self.hot_or_part(*key),
             Packet::SnapRead { .. } => None,
             _ => self.part_out(),
         }

@@ -1,5 +1,5 @@
 //! Bodies in cells.
-ghost use Rattle.std.specs.Prelude.{◌≡◌, ◌+◌, ◌*◌, ◌<◌, ◌≤◌, ◌++◌, length, take, drop};
+ghost use Rattle.std.specs.Prelude.{◌≡◌, ◌+◌, ◌*◌, ◌<◌, ◌≤◌, ◌++◌, length, take, drop, None};
 ghost use Rattle.far_base.specs.declared.body.TheConstants.{BODY_LIMIT};
 ghost use Rattle.far_base.specs.Padded.{padded, text_of};
 ghost use Rattle.switch_staged.specs.Rows.{cut_cells, joined};
@@ -62,6 +62,14 @@ fn padded_text(text: &[u8]) -> [u8; BODY_LIMIT]
     let mut bytes = [0; BODY_LIMIT];
     put_text(&mut bytes, text);
     bytes
+}
+
+/// The cells of an absent body.
+#[tactic(auto, using(crate::proofs::CutLaws::zeros_are_cut))]
+pub fn no_cells() -> Cells
+    ensures { result ≡ cut_body None }
+{
+    [[0; CELL_LENGTH]; BODY_CELLS]
 }
 
 /// A body cut into cells; behind it are zeros.

@@ -6,13 +6,14 @@ ghost use Rattle.far_model.specs.View as view;
 ghost use Rattle.far_model.specs.View.{is_slot_of};
 ghost use Rattle.switch_staged.specs.declared.flight.Act.TheVariants.{Keep, Absorb, Raise, Bind, Clear};
 ghost use Rattle.register_stages.specs.Arrays.{cells_of, place_of};
-ghost use Rattle.switch_staged.specs.Heads.{set_snap as set_snap_to, is_in_reach, gate_after, goes_on as live_at, is_own as own_head, act_for, head_after, empty_head, new_num, new_body, acted as acted_head, bound_head, body_after, bare};
+ghost use Rattle.switch_staged.specs.Heads.{set_snap as set_snap_to, is_in_reach, gate_after, goes_on as live_at, is_own as own_head, act_for, head_after, empty_head, new_num, new_body, acted as acted_head, bound_head, body_after, cells_of_body as cut_body, bare};
+ghost use Rattle.switch_staged.specs.Shapes.{shape_of};
 ghost use Rattle.switch_staged.specs.Stages.{InReach, entered, gate_of, gates_after, headed_with, heads_after, headed, wants_part, head_mark, is_base as base_at, leaves_now as leaves_at, parted_with, taken_after, part_for, changes_record, taken_at_place, parted_at, hots_after, warmed, touch_key, key_touched};
 
-use crate::cells::{Gate, Head, HotCell, Mark, Shape, Taken};
+use crate::cells::{Cells, Gate, Head, HotCell, Mark, Shape, Taken};
 use crate::flight::{Act, Flight, Part};
-use crate::rows::cells_of_body;
-use far_base::{Body, Config, Key, Packet};
+use crate::rows::{cells_of_body, no_cells};
+use far_base::{Config, Key, Packet};
 use register_stages::{PassToken, RegArray};
 
 impl Gate {
@@ -159,7 +160,7 @@ impl Head {
         Head {
             latest: true,
             num: number_of(counter, packet),
-            shape: Shape::of(&body_of(packet)),
+            shape: shape_in(packet),
             ..self
         }
     }
@@ -233,16 +234,29 @@ fn number_of(counter: u64, packet: &Packet) -> u64
     }
 }
 
-/// The body that a packet brings.
+/// The shape of the body that a packet brings.
 #[tactic(auto, unfolding(crate::specs::Heads::new_body))]
-pub fn body_of(packet: &Packet) -> Body
-    ensures { result ≡ new_body packet.now }
+fn shape_in(packet: &Packet) -> Shape
+    ensures { result ≡ shape_of (new_body packet.now) }
 {
-    match *packet {
+    match packet {
         Packet::WriteReq { body, .. }
         | Packet::GetRep { body, .. }
-        | Packet::WriteRep { body, .. } => body,
-        _ => Body::absent(),
+        | Packet::WriteRep { body, .. } => Shape::of(body),
+        _ => Shape::absent(),
+    }
+}
+
+/// The cells of the body that a packet brings.
+#[tactic(auto, unfolding(crate::specs::Heads::new_body))]
+fn cells_in(packet: &Packet) -> Cells
+    ensures { result ≡ cut_body (new_body packet.now) }
+{
+    match packet {
+        Packet::WriteReq { body, .. }
+        | Packet::GetRep { body, .. }
+        | Packet::WriteRep { body, .. } => cells_of_body(body),
+        _ => no_cells(),
     }
 }
 
@@ -262,35 +276,30 @@ fn bound_to(packet: &Packet) -> Head
     }
 }
 
-/// The body that the cells are to have.
+/// The cells that the slot is to have.
 #[tactic(auto, unfolding(crate::specs::Heads::body_after))]
-fn body_due(act: Act, packet: &Packet) -> Body
-    ensures { result ≡ body_after act packet.now }
+fn cells_due(act: Act, packet: &Packet) -> Cells
+    ensures { result ≡ cut_body (body_after act packet.now) }
 {
     match act {
-        Act::Absorb => body_of(packet),
-        _ => Body::absent(),
+        Act::Absorb => cells_in(packet),
+        _ => no_cells(),
     }
 }
 
 impl Flight {
     /// The packet has met its slot, or one that is not of its key.
-    fn headed(self, old: Head) -> Flight
-        ensures { result ≡ headed_with old self }
+    fn meet(&mut self, old: Head)
+        ensures { self.new ≡ headed_with old self.old }
     {
         if !old.is_own(&self.packet) {
-            return Flight {
-                place: None,
-                ..self
-            };
+            self.place = None;
+            return;
         }
         let act = old.act(&self.packet);
-        Flight {
-            old,
-            act,
-            cells: cells_of_body(&body_due(act, &self.packet)),
-            ..self
-        }
+        self.cells = cells_due(act, &self.packet);
+        self.found = old;
+        self.act = act;
     }
 }
 
@@ -325,7 +334,7 @@ pub fn pass_gate(
         live: old.goes_on(config, packet),
         gate: old.after(packet),
         place: None,
-        old: Head::empty(),
+        found: Head::empty(),
         act: Act::Keep,
         part: Part::Stays,
         hot: false,
@@ -334,24 +343,24 @@ pub fn pass_gate(
 }
 
 /// Stage 2: the heads of the slots.
-pub fn pass_heads(heads: &mut RegArray<Head>, token: &mut PassToken, flight: Flight) -> Flight
-    requires cell { InReach flight.place (cells_of heads.old) }
+pub fn pass_heads(heads: &mut RegArray<Head>, token: &mut PassToken, flight: &mut Flight)
+    requires cell { InReach flight.old.place (cells_of heads.old) }
     requires place { place_of heads.old ≡ 2 }
     requires token { token.old ≤ 2 }
-    ensures heads { cells_of heads.new ≡ heads_after (cells_of heads.old) flight }
-    ensures flight { result ≡ headed (cells_of heads.old) flight }
+    ensures heads { cells_of heads.new ≡ heads_after (cells_of heads.old) flight.old }
+    ensures flight { flight.new ≡ headed (cells_of heads.old) flight.old }
     ensures token { token.new ≤ 3 }
     ensures place { place_of heads.new ≡ 2 }
 {
     let Some(place) = flight.place else {
-        return flight;
+        return;
     };
     let old = heads.visit(
         token,
         place,
         |head| head.after(flight.gate.counter, &flight.packet),
     );
-    flight.headed(old)
+    flight.meet(old);
 }
 
 impl Head {
@@ -400,7 +409,7 @@ impl Flight {
     {
         match self.packet {
             Packet::SnapRead { id, .. } => id == self.gate.snap,
-            _ => self.old.changes(self.act),
+            _ => self.found.changes(self.act),
         }
     }
 
@@ -416,7 +425,7 @@ impl Flight {
     {
         self.gate.base > 0
             && taken.era == self.gate.base
-            && same_mark(&taken.mark, &self.old.mark())
+            && same_mark(&taken.mark, &self.found.mark())
     }
 
     fn part(&self, taken: &Taken) -> Part
@@ -440,33 +449,26 @@ impl Flight {
         }
         Taken {
             era: self.gate.snap,
-            mark: self.old.mark(),
+            mark: self.found.mark(),
         }
-    }
-
-    fn parted(self, taken: &Taken) -> Flight
-        ensures { result ≡ parted_with taken.now self }
-    {
-        let part = self.part(taken);
-        Flight { part, ..self }
     }
 }
 
 /// Stage 3: the parts that were taken.
-pub fn pass_taken(cells: &mut RegArray<Taken>, token: &mut PassToken, flight: Flight) -> Flight
-    requires cell { InReach flight.place (cells_of cells.old) }
+pub fn pass_taken(cells: &mut RegArray<Taken>, token: &mut PassToken, flight: &mut Flight)
+    requires cell { InReach flight.old.place (cells_of cells.old) }
     requires place { place_of cells.old ≡ 3 }
     requires token { token.old ≤ 3 }
-    ensures cells { cells_of cells.new ≡ taken_at_place (cells_of cells.old) flight.place flight }
-    ensures flight { result ≡ parted_at (cells_of cells.old) flight.place flight }
+    ensures cells { cells_of cells.new ≡ taken_at_place (cells_of cells.old) flight.old.place flight.old }
+    ensures flight { flight.new ≡ parted_at (cells_of cells.old) flight.old.place flight.old }
     ensures token { token.new ≤ 4 }
     ensures place { place_of cells.new ≡ 3 }
 {
     let Some(place) = flight.place else {
-        return flight;
+        return;
     };
     let old = cells.visit(token, place, |taken| flight.taken(taken));
-    flight.parted(&old)
+    flight.part = flight.part(&old);
 }
 
 /// The key whose hot cell the packet touches.
@@ -488,21 +490,19 @@ pub fn pass_hot(
     cells: &mut RegArray<HotCell>,
     token: &mut PassToken,
     config: &Config,
-    flight: Flight,
-) -> Flight
+    flight: &mut Flight,
+)
     requires cell { length (cells_of cells.old) ≡ 256 }
     requires place { place_of cells.old ≡ 4 }
     requires token { token.old ≤ 4 }
-    ensures cells { cells_of cells.new ≡ hots_after config.now (cells_of cells.old) flight }
-    ensures flight { result ≡ warmed config.now (cells_of cells.old) flight }
+    ensures cells { cells_of cells.new ≡ hots_after config.now (cells_of cells.old) flight.old }
+    ensures flight { flight.new ≡ warmed config.now (cells_of cells.old) flight.old }
     ensures token { token.new ≤ 5 }
     ensures place { place_of cells.new ≡ 4 }
 {
     let Some(key) = touched_key(flight.place, &flight.packet) else {
-        return Flight {
-            hot: false,
-            ..flight
-        };
+        flight.hot = false;
+        return;
     };
     let snap = flight.gate.snap;
     let old = cells.visit(
@@ -510,14 +510,20 @@ pub fn pass_hot(
         key.cell(),
         |cell| cell.in_era(snap).counted(config.hot),
     );
-    let hot = old.in_era(snap).grows_hot(config.hot);
-    Flight { hot, ..flight }
+    flight.hot = old.in_era(snap).grows_hot(config.hot);
 }
 
 /// A packet's body has at most 256 bytes.
+#[tactic(auto, unfolding(crate::specs::Heads::new_body))]
 pub fn body_is_short(packet: &Packet)
     ensures { length (text_of (new_body packet.now)) ≤ 256 }
 {
-    let body = body_of(packet);
-    let _text = body.text();
+    match packet {
+        Packet::WriteReq { body, .. }
+        | Packet::GetRep { body, .. }
+        | Packet::WriteRep { body, .. } => {
+            let _text = body.text();
+        }
+        _ => {}
+    }
 }

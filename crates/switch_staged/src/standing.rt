@@ -42,7 +42,10 @@ pub fn tick_table(lookup: &mut Lookup, flight: Option<Flight>) -> Option<Flight>
     ensures flight { result ≡ sent looked_up lookup.old.bound flight }
 {
     match flight {
-        Some(flight) => Some(pass_table(lookup, flight)),
+        Some(mut flight) => {
+            pass_table(lookup, &mut flight);
+            Some(flight)
+        }
         None => None,
     }
 }
@@ -56,7 +59,10 @@ pub fn tick_heads(heads: &mut RegArray<Head>, flight: Option<Flight>) -> Option<
     ensures place { place_of heads.new ≡ 2 }
 {
     match flight {
-        Some(flight) => Some(pass_heads(heads, &mut PassToken::start(), flight)),
+        Some(mut flight) => {
+            pass_heads(heads, &mut PassToken::start(), &mut flight);
+            Some(flight)
+        }
         None => None,
     }
 }
@@ -79,10 +85,11 @@ pub fn tick_taken(
     ensures hot_place { place_of hot.new ≡ 4 }
 {
     match flight {
-        Some(flight) => {
+        Some(mut flight) => {
             let mut token = PassToken::start();
-            let parted = pass_taken(taken, &mut token, flight);
-            Some(pass_hot(hot, &mut token, config, parted))
+            pass_taken(taken, &mut token, &mut flight);
+            pass_hot(hot, &mut token, config, &mut flight);
+            Some(flight)
         }
         None => None,
     }
@@ -98,7 +105,10 @@ fn tick_body(array: &mut RegArray<Cell>, at: usize, flight: Option<Flight>) -> O
     ensures place { place_of array.new ≡ place_of array.old }
 {
     match flight {
-        Some(flight) => Some(pass_body(array, &mut PassToken::start(), at, flight)),
+        Some(mut flight) => {
+            pass_body(array, &mut PassToken::start(), at, &mut flight);
+            Some(flight)
+        }
         None => None,
     }
 }

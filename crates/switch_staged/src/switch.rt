@@ -68,12 +68,12 @@ impl StagedSwitch {
         ensures second { result.second ≡ (model.pass self.old packet.now).second }
     {
         let mut token = PassToken::start();
-        let flight = pass_gate(&mut self.gate, &mut token, &self.config, packet);
-        let flight = pass_table(&mut self.lookup, flight);
-        let flight = pass_heads(&mut self.heads, &mut token, flight);
-        let flight = pass_taken(&mut self.taken, &mut token, flight);
-        let flight = pass_hot(&mut self.hot, &mut token, &self.config, flight);
-        let flight = pass_bodies(&mut self.bodies, &mut token, self.config.slots, flight);
+        let mut flight = pass_gate(&mut self.gate, &mut token, &self.config, packet);
+        pass_table(&mut self.lookup, &mut flight);
+        pass_heads(&mut self.heads, &mut token, &mut flight);
+        pass_taken(&mut self.taken, &mut token, &mut flight);
+        pass_hot(&mut self.hot, &mut token, &self.config, &mut flight);
+        pass_bodies(&mut self.bodies, &mut token, self.config.slots, &mut flight);
         Emit {
             first: flight.first_out(&self.config),
             second: flight.second_out(),

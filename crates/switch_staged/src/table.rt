@@ -38,18 +38,16 @@ fn bind_for(lookup: &mut Lookup, packet: &Packet)
 }
 
 /// Stage 1: the table.
-pub fn pass_table(lookup: &mut Lookup, flight: Flight) -> Flight
-    requires { flight.live ≡ true → AdmitsWithin (length lookup.old.bound) flight.packet }
-    ensures table { lookup.new.bound ≡ table_after lookup.old.bound flight }
-    ensures flight { result ≡ looked_up lookup.old.bound flight }
+pub fn pass_table(lookup: &mut Lookup, flight: &mut Flight)
+    requires { flight.old.live ≡ true → AdmitsWithin (length lookup.old.bound) flight.old.packet }
+    ensures table { lookup.new.bound ≡ table_after lookup.old.bound flight.old }
+    ensures flight { flight.new ≡ looked_up lookup.old.bound flight.old }
 {
     if !flight.live {
-        return Flight {
-            place: None,
-            ..flight
-        };
+        flight.place = None;
+        return;
     }
     let place = place_of(lookup, &flight.packet);
     bind_for(lookup, &flight.packet);
-    Flight { place, ..flight }
+    flight.place = place;
 }

@@ -10,44 +10,44 @@ use Rattle.switch_staged.proofs.All.{staged_is_pass}
 use Rattle.switch_staged.proofs.StagedLaws.{place_in, headed_in, parted_in, reach_in, part_full, heads_length, taken_length, table_length, hots_length, admits_in, gate_is_set, run_is}
 use Rattle.switch_staged.proofs.switch.StagedSwitch.visit_all.Goals as goal
 
-pub pass_table-flight-requires : goal.pass_table-flight-requires
-pass_table-flight-requires c = subst (λ f. f.live ≡ true → AdmitsWithin (length c.self.inside.lookup.bound) f.packet) (sym c.pass_gate-flight.ensures.flight) (admits_in c.self.inside.config (gate_of (cells_of c.self.inside.gate)) c.args.packet.now _ c.self.invariant.fits.bound)
+pub pass_table-requires : goal.pass_table-requires
+pass_table-requires c = subst (λ f. f.live ≡ true → AdmitsWithin (length c.self.inside.lookup.bound) f.packet) (sym c.pass_gate-flight.ensures.flight) (admits_in c.self.inside.config (gate_of (cells_of c.self.inside.gate)) c.args.packet.now _ c.self.invariant.fits.bound)
 
-pub pass_heads-flight-requires-clause-cell : goal.pass_heads-flight-requires-clause-cell
-pass_heads-flight-requires-clause-cell c = reach_in _ c.self.inside.config.slots _ (subst (λ f. PlaceBelow f.place c.self.inside.config.slots) (sym (c.pass_table-flight.ensures.flight ∙ ap (looked_up c.self.inside.lookup.bound) c.pass_gate-flight.ensures.flight)) (place_in c.self.inside.config c.self.inside.lookup.bound (gate_of (cells_of c.self.inside.gate)) c.args.packet.now c.self.invariant.fits.bound)) c.self.invariant.fits.heads
+pub pass_heads-requires-clause-cell : goal.pass_heads-requires-clause-cell
+pass_heads-requires-clause-cell c = reach_in _ c.self.inside.config.slots _ (subst (λ f. PlaceBelow f.place c.self.inside.config.slots) (sym (c.pass_table.ensures.flight ∙ ap (looked_up c.self.inside.lookup.bound) c.pass_gate-flight.ensures.flight)) (place_in c.self.inside.config c.self.inside.lookup.bound (gate_of (cells_of c.self.inside.gate)) c.args.packet.now c.self.invariant.fits.bound)) c.self.invariant.fits.heads
 
-pub pass_taken-flight-requires-clause-cell : goal.pass_taken-flight-requires-clause-cell
-pass_taken-flight-requires-clause-cell c = reach_in _ c.self.inside.config.slots _ (subst (λ f. PlaceBelow f.place c.self.inside.config.slots) (sym c.pass_heads-flight.ensures.flight) (headed_in (cells_of c.self.inside.heads) c.pass_table-flight.result c.self.inside.config.slots (subst (λ f. PlaceBelow f.place c.self.inside.config.slots) (sym (c.pass_table-flight.ensures.flight ∙ ap (looked_up c.self.inside.lookup.bound) c.pass_gate-flight.ensures.flight)) (place_in c.self.inside.config c.self.inside.lookup.bound (gate_of (cells_of c.self.inside.gate)) c.args.packet.now c.self.invariant.fits.bound)))) c.self.invariant.fits.taken
+pub pass_taken-requires-clause-cell : goal.pass_taken-requires-clause-cell
+pass_taken-requires-clause-cell c = reach_in _ c.self.inside.config.slots _ (subst (λ f. PlaceBelow f.place c.self.inside.config.slots) (sym c.pass_heads.ensures.flight) (headed_in (cells_of c.self.inside.heads) c.pass_table.new.flight c.self.inside.config.slots (subst (λ f. PlaceBelow f.place c.self.inside.config.slots) (sym (c.pass_table.ensures.flight ∙ ap (looked_up c.self.inside.lookup.bound) c.pass_gate-flight.ensures.flight)) (place_in c.self.inside.config c.self.inside.lookup.bound (gate_of (cells_of c.self.inside.gate)) c.args.packet.now c.self.invariant.fits.bound)))) c.self.invariant.fits.taken
 
-pub pass_bodies-flight-requires-clause-cell : goal.pass_bodies-flight-requires-clause-cell
-pass_bodies-flight-requires-clause-cell c = (subst (λ f. PlaceBelow f.place c.self.inside.config.slots) (sym c.pass_hot-flight.ensures.flight) (subst (λ f. PlaceBelow f.place c.self.inside.config.slots) (sym c.pass_taken-flight.ensures.flight) (parted_in (cells_of c.self.inside.taken) c.pass_heads-flight.result c.pass_heads-flight.result.place c.self.inside.config.slots (subst (λ f. PlaceBelow f.place c.self.inside.config.slots) (sym c.pass_heads-flight.ensures.flight) (headed_in (cells_of c.self.inside.heads) c.pass_table-flight.result c.self.inside.config.slots (subst (λ f. PlaceBelow f.place c.self.inside.config.slots) (sym (c.pass_table-flight.ensures.flight ∙ ap (looked_up c.self.inside.lookup.bound) c.pass_gate-flight.ensures.flight)) (place_in c.self.inside.config c.self.inside.lookup.bound (gate_of (cells_of c.self.inside.gate)) c.args.packet.now c.self.invariant.fits.bound)))))))
+pub pass_bodies-requires-clause-cell : goal.pass_bodies-requires-clause-cell
+pass_bodies-requires-clause-cell c = (subst (λ f. PlaceBelow f.place c.self.inside.config.slots) (sym c.pass_hot.ensures.flight) (subst (λ f. PlaceBelow f.place c.self.inside.config.slots) (sym c.pass_taken.ensures.flight) (parted_in (cells_of c.self.inside.taken) c.pass_heads.new.flight c.pass_heads.new.flight.place c.self.inside.config.slots (subst (λ f. PlaceBelow f.place c.self.inside.config.slots) (sym c.pass_heads.ensures.flight) (headed_in (cells_of c.self.inside.heads) c.pass_table.new.flight c.self.inside.config.slots (subst (λ f. PlaceBelow f.place c.self.inside.config.slots) (sym (c.pass_table.ensures.flight ∙ ap (looked_up c.self.inside.lookup.bound) c.pass_gate-flight.ensures.flight)) (place_in c.self.inside.config c.self.inside.lookup.bound (gate_of (cells_of c.self.inside.gate)) c.args.packet.now c.self.invariant.fits.bound)))))))
 
 pub invariant_of-self : goal.invariant_of-self
 invariant_of-self c = record {
   servers = c.self.invariant.servers;
   slots = c.self.invariant.slots;
   fits = record {
-    bound = ap length c.pass_table-flight.ensures.table ∙ table_length c.self.inside.lookup.bound c.pass_gate-flight.result ∙ c.self.invariant.fits.bound;
-    heads = ap length c.pass_heads-flight.ensures.heads ∙ heads_length _ _ _ ∙ c.self.invariant.fits.heads;
-    taken = ap length c.pass_taken-flight.ensures.cells ∙ taken_length _ _ _ ∙ c.self.invariant.fits.taken;
-    arrays = part_full 5 c.self.inside.config.slots _ c.pass_bodies-flight.ensures.part;
-    count = all_length _ ∙ c.pass_bodies-flight.ensures.count;
+    bound = ap length c.pass_table.ensures.table ∙ table_length c.self.inside.lookup.bound c.pass_gate-flight.result ∙ c.self.invariant.fits.bound;
+    heads = ap length c.pass_heads.ensures.heads ∙ heads_length _ _ _ ∙ c.self.invariant.fits.heads;
+    taken = ap length c.pass_taken.ensures.cells ∙ taken_length _ _ _ ∙ c.self.invariant.fits.taken;
+    arrays = part_full 5 c.self.inside.config.slots _ c.pass_bodies.ensures.part;
+    count = all_length _ ∙ c.pass_bodies.ensures.count;
   };
   one = c.pass_gate-flight.ensures.one;
-  hots = ap length c.pass_hot-flight.ensures.cells ∙ hots_length c.self.inside.config (cells_of c.self.inside.hot) c.pass_taken-flight.result ∙ c.self.invariant.hots;
+  hots = ap length c.pass_hot.ensures.cells ∙ hots_length c.self.inside.config (cells_of c.self.inside.hot) c.pass_taken.new.flight ∙ c.self.invariant.hots;
   gate_place = c.pass_gate-flight.ensures.place;
-  heads_place = c.pass_heads-flight.ensures.place;
-  taken_place = c.pass_taken-flight.ensures.place;
-  hot_place = c.pass_hot-flight.ensures.place;
-  part = c.pass_bodies-flight.ensures.part;
-  count = c.pass_bodies-flight.ensures.count;
+  heads_place = c.pass_heads.ensures.place;
+  taken_place = c.pass_taken.ensures.place;
+  hot_place = c.pass_hot.ensures.place;
+  part = c.pass_bodies.ensures.part;
+  count = c.pass_bodies.ensures.count;
 }
 
 pub returns-clause-view : goal.returns-clause-view
-returns-clause-view c = ap (λ (x : Passed). x.view) (run_is c.self.inside.config (registers c.self.inside.gate c.self.inside.lookup.bound c.self.inside.heads c.self.inside.taken c.self.inside.hot c.self.inside.bodies.items) (registers c.pass_gate-flight.new.gates c.pass_table-flight.new.lookup.bound c.pass_heads-flight.new.heads c.pass_taken-flight.new.cells c.pass_hot-flight.new.cells c.pass_bodies-flight.new.arrays.items) c.args.packet.now c.pass_gate-flight.result c.pass_table-flight.result c.pass_heads-flight.result c.pass_taken-flight.result c.pass_hot-flight.result c.pass_bodies-flight.result (ap gate_of c.pass_gate-flight.ensures.gate ∙ gate_is_set (cells_of c.self.inside.gate) _ c.self.invariant.one) c.pass_gate-flight.ensures.flight c.pass_table-flight.ensures.table c.pass_table-flight.ensures.flight c.pass_heads-flight.ensures.heads c.pass_heads-flight.ensures.flight c.pass_taken-flight.ensures.cells c.pass_taken-flight.ensures.flight c.pass_hot-flight.ensures.cells c.pass_hot-flight.ensures.flight c.pass_bodies-flight.ensures.cells c.pass_bodies-flight.ensures.flight ∙ staged_is_pass c.self.inside.config (registers c.self.inside.gate c.self.inside.lookup.bound c.self.inside.heads c.self.inside.taken c.self.inside.hot c.self.inside.bodies.items) c.args.packet.now c.self.invariant.fits c.pass_gate-flight.ensures.short) ∙ ap (λ v. (pass v c.args.packet.now).view) c.self.view_is
+returns-clause-view c = ap (λ (x : Passed). x.view) (run_is c.self.inside.config (registers c.self.inside.gate c.self.inside.lookup.bound c.self.inside.heads c.self.inside.taken c.self.inside.hot c.self.inside.bodies.items) (registers c.pass_gate-flight.new.gates c.pass_table.new.lookup.bound c.pass_heads.new.heads c.pass_taken.new.cells c.pass_hot.new.cells c.pass_bodies.new.arrays.items) c.args.packet.now c.pass_gate-flight.result c.pass_table.new.flight c.pass_heads.new.flight c.pass_taken.new.flight c.pass_hot.new.flight c.pass_bodies.new.flight (ap gate_of c.pass_gate-flight.ensures.gate ∙ gate_is_set (cells_of c.self.inside.gate) _ c.self.invariant.one) c.pass_gate-flight.ensures.flight c.pass_table.ensures.table c.pass_table.ensures.flight c.pass_heads.ensures.heads c.pass_heads.ensures.flight c.pass_taken.ensures.cells c.pass_taken.ensures.flight c.pass_hot.ensures.cells c.pass_hot.ensures.flight c.pass_bodies.ensures.cells c.pass_bodies.ensures.flight ∙ staged_is_pass c.self.inside.config (registers c.self.inside.gate c.self.inside.lookup.bound c.self.inside.heads c.self.inside.taken c.self.inside.hot c.self.inside.bodies.items) c.args.packet.now c.self.invariant.fits c.pass_gate-flight.ensures.short) ∙ ap (λ v. (pass v c.args.packet.now).view) c.self.view_is
 
 pub returns-clause-first : goal.returns-clause-first
-returns-clause-first c = c.first_out.ensures ∙ ap (λ (x : Passed). x.first) (run_is c.self.inside.config (registers c.self.inside.gate c.self.inside.lookup.bound c.self.inside.heads c.self.inside.taken c.self.inside.hot c.self.inside.bodies.items) (registers c.pass_gate-flight.new.gates c.pass_table-flight.new.lookup.bound c.pass_heads-flight.new.heads c.pass_taken-flight.new.cells c.pass_hot-flight.new.cells c.pass_bodies-flight.new.arrays.items) c.args.packet.now c.pass_gate-flight.result c.pass_table-flight.result c.pass_heads-flight.result c.pass_taken-flight.result c.pass_hot-flight.result c.pass_bodies-flight.result (ap gate_of c.pass_gate-flight.ensures.gate ∙ gate_is_set (cells_of c.self.inside.gate) _ c.self.invariant.one) c.pass_gate-flight.ensures.flight c.pass_table-flight.ensures.table c.pass_table-flight.ensures.flight c.pass_heads-flight.ensures.heads c.pass_heads-flight.ensures.flight c.pass_taken-flight.ensures.cells c.pass_taken-flight.ensures.flight c.pass_hot-flight.ensures.cells c.pass_hot-flight.ensures.flight c.pass_bodies-flight.ensures.cells c.pass_bodies-flight.ensures.flight ∙ staged_is_pass c.self.inside.config (registers c.self.inside.gate c.self.inside.lookup.bound c.self.inside.heads c.self.inside.taken c.self.inside.hot c.self.inside.bodies.items) c.args.packet.now c.self.invariant.fits c.pass_gate-flight.ensures.short) ∙ ap (λ v. (pass v c.args.packet.now).first) c.self.view_is
+returns-clause-first c = c.first_out.ensures ∙ ap (λ (x : Passed). x.first) (run_is c.self.inside.config (registers c.self.inside.gate c.self.inside.lookup.bound c.self.inside.heads c.self.inside.taken c.self.inside.hot c.self.inside.bodies.items) (registers c.pass_gate-flight.new.gates c.pass_table.new.lookup.bound c.pass_heads.new.heads c.pass_taken.new.cells c.pass_hot.new.cells c.pass_bodies.new.arrays.items) c.args.packet.now c.pass_gate-flight.result c.pass_table.new.flight c.pass_heads.new.flight c.pass_taken.new.flight c.pass_hot.new.flight c.pass_bodies.new.flight (ap gate_of c.pass_gate-flight.ensures.gate ∙ gate_is_set (cells_of c.self.inside.gate) _ c.self.invariant.one) c.pass_gate-flight.ensures.flight c.pass_table.ensures.table c.pass_table.ensures.flight c.pass_heads.ensures.heads c.pass_heads.ensures.flight c.pass_taken.ensures.cells c.pass_taken.ensures.flight c.pass_hot.ensures.cells c.pass_hot.ensures.flight c.pass_bodies.ensures.cells c.pass_bodies.ensures.flight ∙ staged_is_pass c.self.inside.config (registers c.self.inside.gate c.self.inside.lookup.bound c.self.inside.heads c.self.inside.taken c.self.inside.hot c.self.inside.bodies.items) c.args.packet.now c.self.invariant.fits c.pass_gate-flight.ensures.short) ∙ ap (λ v. (pass v c.args.packet.now).first) c.self.view_is
 
 pub returns-clause-second : goal.returns-clause-second
-returns-clause-second c = c.second_out.ensures ∙ ap (λ (x : Passed). x.second) (run_is c.self.inside.config (registers c.self.inside.gate c.self.inside.lookup.bound c.self.inside.heads c.self.inside.taken c.self.inside.hot c.self.inside.bodies.items) (registers c.pass_gate-flight.new.gates c.pass_table-flight.new.lookup.bound c.pass_heads-flight.new.heads c.pass_taken-flight.new.cells c.pass_hot-flight.new.cells c.pass_bodies-flight.new.arrays.items) c.args.packet.now c.pass_gate-flight.result c.pass_table-flight.result c.pass_heads-flight.result c.pass_taken-flight.result c.pass_hot-flight.result c.pass_bodies-flight.result (ap gate_of c.pass_gate-flight.ensures.gate ∙ gate_is_set (cells_of c.self.inside.gate) _ c.self.invariant.one) c.pass_gate-flight.ensures.flight c.pass_table-flight.ensures.table c.pass_table-flight.ensures.flight c.pass_heads-flight.ensures.heads c.pass_heads-flight.ensures.flight c.pass_taken-flight.ensures.cells c.pass_taken-flight.ensures.flight c.pass_hot-flight.ensures.cells c.pass_hot-flight.ensures.flight c.pass_bodies-flight.ensures.cells c.pass_bodies-flight.ensures.flight ∙ staged_is_pass c.self.inside.config (registers c.self.inside.gate c.self.inside.lookup.bound c.self.inside.heads c.self.inside.taken c.self.inside.hot c.self.inside.bodies.items) c.args.packet.now c.self.invariant.fits c.pass_gate-flight.ensures.short) ∙ ap (λ v. (pass v c.args.packet.now).second) c.self.view_is
+returns-clause-second c = c.second_out.ensures ∙ ap (λ (x : Passed). x.second) (run_is c.self.inside.config (registers c.self.inside.gate c.self.inside.lookup.bound c.self.inside.heads c.self.inside.taken c.self.inside.hot c.self.inside.bodies.items) (registers c.pass_gate-flight.new.gates c.pass_table.new.lookup.bound c.pass_heads.new.heads c.pass_taken.new.cells c.pass_hot.new.cells c.pass_bodies.new.arrays.items) c.args.packet.now c.pass_gate-flight.result c.pass_table.new.flight c.pass_heads.new.flight c.pass_taken.new.flight c.pass_hot.new.flight c.pass_bodies.new.flight (ap gate_of c.pass_gate-flight.ensures.gate ∙ gate_is_set (cells_of c.self.inside.gate) _ c.self.invariant.one) c.pass_gate-flight.ensures.flight c.pass_table.ensures.table c.pass_table.ensures.flight c.pass_heads.ensures.heads c.pass_heads.ensures.flight c.pass_taken.ensures.cells c.pass_taken.ensures.flight c.pass_hot.ensures.cells c.pass_hot.ensures.flight c.pass_bodies.ensures.cells c.pass_bodies.ensures.flight ∙ staged_is_pass c.self.inside.config (registers c.self.inside.gate c.self.inside.lookup.bound c.self.inside.heads c.self.inside.taken c.self.inside.hot c.self.inside.bodies.items) c.args.packet.now c.self.invariant.fits c.pass_gate-flight.ensures.short) ∙ ap (λ v. (pass v c.args.packet.now).second) c.self.view_is
