@@ -23,7 +23,8 @@ use Rattle.far_model.proofs.Members.{among_append, among_at, among_remove}
 use Rattle.record_laws.proofs.Seats.{counted, count_removed, count_append, count_one, Seats, bag_taken, same_seats, seats_last, unchanged_slots}
 use Rattle.far_invariants.specs.EvictionNeeds.{Needs}
 use Rattle.flight_laws.proofs.Lists.{by_test}
-use Rattle.far_invariants.specs.Evictions.{Content, is_eviction_of, PeekIs, EvictionPacketIs, EvictionsAre}
+use Rattle.far_invariants.proofs.Noted.{member}
+use Rattle.far_invariants.specs.Evictions.{Content, Onward, is_eviction_of, PeekIs, EvictionPacketIs, EvictionsAre}
 use Rattle.eviction_laws.proofs.Onward.{evictions_last}
 use Rattle.eviction_laws.proofs.Rules.{Rules, slot_rests, rules_keep}
 use Rattle.eviction_laws.proofs.Seating.{given_within}
@@ -105,6 +106,39 @@ module _ (plan : PlanView) (s : State) (k : OperationsStand plan s) (h : Seats p
 
 -- ---- the eviction
 
+-- the state after a pass that changes nothing of the switch but its counts, with what leaves
+abbrev pub passed_on : State → ℕ → List ℕ → List Message → State
+passed_on s n passes new = record s { bag = remove s.bag n ++ new; passes = passes; steps = s.steps + 1; log = s.log ++ [] }
+
+pub onward_on : (plan : PlanView) (s : State) (n : ℕ) (passes : List ℕ) (new : List Message) → Onward plan s (passed_on s n passes new)
+onward_on plan s n passes new = record { still = member s (passed_on s n passes new) [] refl; past = omega arith; more = λ key. omega arith }
+
+-- what leaves counts for the eviction as what came did
+pub evictions_on : (plan : PlanView) {c : Content} (s : State) (v : EvictionsAre plan c s) (n : ℕ) (asked : Message) (passes : List ℕ) (new : List Message) → slice_get s.bag n ≡ Some asked
+    → ((m : Message) → Among m new → EvictionPacketIs plan c (passed_on s n passes new) m.packet)
+    → count_by (λ (m : Message). is_eviction_of s.controller.epoch s.controller.eviction m.packet) new ≡ counted (λ (m : Message). is_eviction_of s.controller.epoch s.controller.eviction m.packet) asked
+    → EvictionsAre plan c (passed_on s n passes new)
+evictions_on plan {c} s v n asked passes new at news count = evictions_last plan s (passed_on s n passes new) v (record {
+  onward = onward_on plan s n passes new;
+  running = λ e. e;
+  eviction = refl;
+  epoch = refl;
+  round = refl;
+  jobs = omega arith;
+  evicted = λ j key tag e. e;
+  no_more = λ j key tag e. e;
+  owners = λ j key tag e. inl (record { valid = refl; key = refl; tag = refl });
+  news = λ m a. go m (among_append m (remove s.bag n) new a);
+  count =
+      let first = count_removed (λ (m : Message). is_eviction_of s.controller.epoch s.controller.eviction m.packet) s.bag n asked at in
+      let more = count_append (λ (m : Message). is_eviction_of s.controller.epoch s.controller.eviction m.packet) (remove s.bag n) new in
+      omega (arith, first, more, count);
+})
+  where
+    go : (m : Message) → Among m (remove s.bag n) ⊎ Among m new → Among m s.bag ⊎ EvictionPacketIs plan c (passed_on s n passes new) m.packet
+    go m (inl a) = inl (among_remove m s.bag n a)
+    go m (inr a) = inr (news m a)
+
 module _ (plan : PlanView) {c : Content} (s : State) (need : Needs plan c s) (v : EvictionsAre plan c s) (runs : s.running ≡ true) (n : ℕ) (from to : Party) (own i tag : ℕ)
     (at : slice_get s.bag n ≡ Some (record { from = from; to = to; packet = Peek own i tag })) where
   abbrev asked : Message
@@ -116,36 +150,14 @@ module _ (plan : PlanView) {c : Content} (s : State) (need : Needs plan c s) (v 
   its : EvictionPacketIs plan c s (Peek own i tag)
   its = v.packets asked (among_at _ s.bag n at)
 
-  rests : (m : Message) → Among m rest → Among m s.bag
-  rests m a = among_remove m s.bag n a
-
   -- the state after, with what leaves
   abbrev after : List Message → State
-  after new = record s { bag = rest ++ new; passes = with_pass s.passes (Peek own i tag); steps = s.steps + 1; log = s.log ++ [] }
+  after new = passed_on s n (with_pass s.passes (Peek own i tag)) new
 
   leaves : (new : List Message) → ((m : Message) → Among m new → EvictionPacketIs plan c (after new) m.packet)
       → count_by (λ (m : Message). is_eviction_of s.controller.epoch s.controller.eviction m.packet) new ≡ counted (λ (m : Message). is_eviction_of s.controller.epoch s.controller.eviction m.packet) asked
       → EvictionsAre plan c (after new)
-  leaves new news count = evictions_last plan s (after new) v (record {
-    onward = record { still = Rattle.far_invariants.proofs.Noted.member s (after new) [] refl; past = omega arith; more = λ key. omega arith };
-    running = λ e. e;
-    eviction = refl;
-    epoch = refl;
-    round = refl;
-    jobs = omega arith;
-    evicted = λ j key tag e. e;
-    no_more = λ j key tag e. e;
-    owners = λ j key tag e. inl (record { valid = refl; key = refl; tag = refl });
-    news = λ m a. go m (among_append m rest new a);
-    count =
-        let first = count_removed (λ (m : Message). is_eviction_of s.controller.epoch s.controller.eviction m.packet) s.bag n asked at in
-        let more = count_append (λ (m : Message). is_eviction_of s.controller.epoch s.controller.eviction m.packet) rest new in
-        omega (arith, first, more, count);
-  })
-    where
-      go : (m : Message) → Among m rest ⊎ Among m new → Among m s.bag ⊎ EvictionPacketIs plan c (after new) m.packet
-      go m (inl a) = inl (rests m a)
-      go m (inr a) = inr (news m a)
+  leaves new news count = evictions_on plan s v n asked (with_pass s.passes (Peek own i tag)) new at news count
 
   -- ---- of the switch's epoch
 

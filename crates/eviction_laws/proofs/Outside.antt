@@ -1,21 +1,18 @@
 -- Outside a round the controller begins none by a packet.
-use Rattle.std.proofs.Common.{◌≡◌, ℕ, inl, inr, true, List, [], ◌∷◌, length, refl, ap, ◌∙◌}
+use Rattle.std.proofs.Common.{◌≡◌, ℕ, inl, inr, true, List, [], ◌∷◌, length, refl, ap}
 use Rattle.std.specs.Prelude.{Some}
 use Rattle.std.proofs.lemmas.List.{set-get_or}
 use Rattle.far_base.specs.declared.packet.Message.{Message}
-use Rattle.far_base.specs.declared.packet.Out.{Out}
 use Rattle.far_base.specs.declared.packet.Packet.TheVariants.{TopAsk, TopIs}
 use Rattle.far_base.specs.declared.party.Party.TheVariants.{Client, Server, Controller}
 use Rattle.far_base.specs.declared.record.Record.{Record}
-use Rattle.far_model.specs.Clients.{ClientState, tells, tells_each}
+use Rattle.far_model.specs.Clients.{tells, tells_each}
 use Rattle.far_model.specs.Events.{client_turn, server_turn}
 use Rattle.far_model.specs.Members.{Among, Each}
 use Rattle.far_model.specs.Parties.{messages_from}
-use Rattle.far_model.specs.State.{State, client_at, nobody}
-use Rattle.far_model.proofs.Members.{among_map_from, each_among}
-use Rattle.flight_laws.proofs.Lists.{set_field}
+use Rattle.far_model.specs.State.{State, client_at}
 use Rattle.record_laws.proofs.Calm.{is_plain, IsCalm}
-use Rattle.record_laws.proofs.Snapshots.{IsPlainOut}
+use Rattle.record_laws.proofs.Snapshots.{IsPlainOut, client_calm}
 
 -- ---- what a round sends is calm
 
@@ -28,26 +25,7 @@ tells_plain round client [] = (refl, tt)
 tells_plain round client (r ∷ rs) = told_plain round client (length (r ∷ rs)) (r ∷ rs)
 
 pub ask_calm : (s : State) (rest : List Message) (c round : ℕ) → IsCalm [] s (client_turn s c rest (record { state = client_at s c; out = tells round c (client_at s c).preserved; notes = [] })) rest (messages_from (Client c) (tells round c (client_at s c).preserved))
-ask_calm s rest c round = record {
-  bag = refl;
-  plain = λ m a. let p = among_map_from (λ (o : Out). record { from = Client c; to = o.to; packet = o.packet }) m (tells round c (client_at s c).preserved) a in
-      ap (λ (w : Message). is_plain w.packet) p.2 ∙ each_among IsPlainOut p.0 (tells round c (client_at s c).preserved) (tells_plain round c (client_at s c).preserved) p.1;
-  log = refl;
-  notes_are = tt;
-  steps = refl;
-  running = refl;
-  config = refl;
-  switch_epoch = refl;
-  counter = refl;
-  bound = refl;
-  slots = refl;
-  servers = refl;
-  waits = λ d. set_field (λ (w : ClientState). w.waits) s.clients c (client_at s c) nobody refl d;
-  left = λ d. set_field (λ (w : ClientState). w.left) s.clients c (client_at s c) nobody refl d;
-  epoch = refl;
-  states = refl;
-  tags = refl;
-}
+ask_calm s rest c round = client_calm s rest c (client_at s c) (tells round c (client_at s c).preserved) refl refl (tells_plain round c (client_at s c).preserved)
 
 pub top_calm : (s : State) (rest : List Message) (n round top : ℕ) → IsCalm [] s (server_turn s n rest (TopAsk round) (Some (TopIs round n top))) rest (record { from = Server n; to = Controller; packet = TopIs round n top } ∷ [])
 top_calm s rest n round top = record {

@@ -23,14 +23,14 @@ use Rattle.far_model.specs.Pass.{removes, removed_answer, may_go, changes, dropp
 use Rattle.far_model.specs.Passes.{with_pass}
 use Rattle.far_model.specs.State.{State}
 use Rattle.far_model.specs.View.{SlotView, SwitchView, slot_at, entry_if, bound_place, is_slot_of, shown_body, empty_slot, is_taken, held_record}
-use Rattle.far_model.proofs.Members.{among_append, among_at, among_remove}
+use Rattle.far_model.proofs.Members.{among_at, among_remove}
 use Rattle.record_laws.proofs.Requests.{reach_latest, reach_outdated}
-use Rattle.record_laws.proofs.Seats.{counted, count_removed, count_append, count_one, count_none, Seats, bag_taken, same_seats, seats_last, unchanged_slots}
+use Rattle.record_laws.proofs.Seats.{counted, count_one, count_none, Seats, bag_taken, same_seats, seats_last, unchanged_slots}
 use Rattle.record_laws.proofs.Slots.{both, IsEntry, SetsSlot, entry_is, entry_kept, with_slot_sets, taken_sets}
 use Rattle.far_invariants.specs.EvictionNeeds.{Needs}
 use Rattle.far_invariants.specs.Evictions.{Content, is_eviction_packet, is_eviction_of, eviction_count, RemoveIs, EvictionPacketIs, EvictionIs, StageIs, EvictionsAre}
-use Rattle.eviction_laws.proofs.Looking.{found_slot, there_same, under, slot_entry, slot_written, quiet_pass_keeps}
-use Rattle.eviction_laws.proofs.Onward.{eviction_any, no_eviction_of, turned, evictions_last, none_but_one}
+use Rattle.eviction_laws.proofs.Looking.{evictions_on, found_slot, onward_on, passed_on, quiet_pass_keeps, slot_entry, slot_written, there_same, under}
+use Rattle.eviction_laws.proofs.Onward.{eviction_any, no_eviction_of, turned, none_but_one}
 use Rattle.far_invariants.specs.Evictions.{Onward}
 use Rattle.eviction_laws.proofs.Rules.{SlotGoes, slot_rests, rules_keep}
 use Rattle.eviction_laws.proofs.Seating.{seats_move}
@@ -74,34 +74,15 @@ module _ (plan : PlanView) {c : Content} (s : State) (need : Needs plan c s) (v 
   -- ---- nothing goes
 
   abbrev after : List Message → State
-  after new = record s { bag = rest ++ new; passes = with_pass s.passes (Remove own i tag latest num); steps = s.steps + 1; log = s.log ++ [] }
+  after new = passed_on s n (with_pass s.passes (Remove own i tag latest num)) new
 
   onward_after : (new : List Message) → Onward plan s (after new)
-  onward_after new = record { still = member s (after new) [] refl; past = omega arith; more = λ key. omega arith }
+  onward_after new = onward_on plan s n (with_pass s.passes (Remove own i tag latest num)) new
 
   stays_sound : (new : List Message) → ((m : Message) → Among m new → EvictionPacketIs plan c (after new) m.packet)
       → count_by (λ (m : Message). is_eviction_of s.controller.epoch s.controller.eviction m.packet) new ≡ counted (λ (m : Message). is_eviction_of s.controller.epoch s.controller.eviction m.packet) asked
       → EvictionsAre plan c (after new)
-  stays_sound new news count = evictions_last plan s (after new) v (record {
-    onward = onward_after new;
-    running = λ e. e;
-    eviction = refl;
-    epoch = refl;
-    round = refl;
-    jobs = omega arith;
-    evicted = λ j key tag e. e;
-    no_more = λ j key tag e. e;
-    owners = λ j key tag e. inl (record { valid = refl; key = refl; tag = refl });
-    news = λ m a. go m (among_append m rest new a);
-    count =
-        let first = count_removed (λ (m : Message). is_eviction_of s.controller.epoch s.controller.eviction m.packet) s.bag n asked at in
-        let more = count_append (λ (m : Message). is_eviction_of s.controller.epoch s.controller.eviction m.packet) rest new in
-        omega (arith, first, more, count);
-  })
-    where
-      go : (m : Message) → Among m rest ⊎ Among m new → Among m s.bag ⊎ EvictionPacketIs plan c (after new) m.packet
-      go m (inl a) = inl (rests m a)
-      go m (inr a) = inr (news m a)
+  stays_sound new news count = evictions_on plan s v n asked (with_pass s.passes (Remove own i tag latest num)) new at news count
 
   abbrev kept_answer : Message
   kept_answer = record { from = Switch; to = Controller; packet = RemoveAns i tag false slot.latest slot.num (shown_body slot) }

@@ -41,103 +41,61 @@ rows_count is bytes lines table ps rows =
 abbrev pub IsBodiless : {X : Type 0} → (LogEntry → X) → Type 0
 IsBodiless f = (body : Option (List ℕ)) (b : Bare) → f (entry_with None b) ≡ f (entry_with body b)
 
+-- all that a summary is told of an entry
+record Telling : Type 0 where
+  answer : Bool
+  snapshot : Bool
+  eviction : Bool
+  kept : Bool
+  recovery : Bool
+  same : ℕ
+  number : ℕ
+
+abbrev telling : LogEntry → Telling
+telling e = record {
+  answer = is_answer e;
+  snapshot = is_snapshot e;
+  eviction = is_eviction e;
+  kept = is_kept e;
+  recovery = is_recovery e;
+  same = same_parts e;
+  number = number_given e;
+}
+
+telling_bodiless : IsBodiless telling
+telling_bodiless body (Sent op line) = refl
+telling_bodiless body (Numbered op num) = refl
+telling_bodiless body (Emitted op num near) = refl
+telling_bodiless body (Answered op) = refl
+telling_bodiless body (Admitted slot key tag) = refl
+telling_bodiless body (Evicted slot key tries) = refl
+telling_bodiless body (Kept slot key num) = refl
+telling_bodiless body (Snapped id point count same) = refl
+telling_bodiless body (SnapItem slot key num) = refl
+telling_bodiless body Stopped = refl
+telling_bodiless body (Recovered counter count) = refl
+telling_bodiless body (RecItem key num) = refl
+
 pub answer_bodiless : IsBodiless is_answer
-answer_bodiless body (Sent op line) = refl
-answer_bodiless body (Numbered op num) = refl
-answer_bodiless body (Emitted op num near) = refl
-answer_bodiless body (Answered op) = refl
-answer_bodiless body (Admitted slot key tag) = refl
-answer_bodiless body (Evicted slot key tries) = refl
-answer_bodiless body (Kept slot key num) = refl
-answer_bodiless body (Snapped id point count same) = refl
-answer_bodiless body (SnapItem slot key num) = refl
-answer_bodiless body Stopped = refl
-answer_bodiless body (Recovered counter count) = refl
-answer_bodiless body (RecItem key num) = refl
+answer_bodiless body b = ap (λ (t : Telling). t.answer) (telling_bodiless body b)
 
 pub snapshot_bodiless : IsBodiless is_snapshot
-snapshot_bodiless body (Sent op line) = refl
-snapshot_bodiless body (Numbered op num) = refl
-snapshot_bodiless body (Emitted op num near) = refl
-snapshot_bodiless body (Answered op) = refl
-snapshot_bodiless body (Admitted slot key tag) = refl
-snapshot_bodiless body (Evicted slot key tries) = refl
-snapshot_bodiless body (Kept slot key num) = refl
-snapshot_bodiless body (Snapped id point count same) = refl
-snapshot_bodiless body (SnapItem slot key num) = refl
-snapshot_bodiless body Stopped = refl
-snapshot_bodiless body (Recovered counter count) = refl
-snapshot_bodiless body (RecItem key num) = refl
+snapshot_bodiless body b = ap (λ (t : Telling). t.snapshot) (telling_bodiless body b)
 
 pub eviction_bodiless : IsBodiless is_eviction
-eviction_bodiless body (Sent op line) = refl
-eviction_bodiless body (Numbered op num) = refl
-eviction_bodiless body (Emitted op num near) = refl
-eviction_bodiless body (Answered op) = refl
-eviction_bodiless body (Admitted slot key tag) = refl
-eviction_bodiless body (Evicted slot key tries) = refl
-eviction_bodiless body (Kept slot key num) = refl
-eviction_bodiless body (Snapped id point count same) = refl
-eviction_bodiless body (SnapItem slot key num) = refl
-eviction_bodiless body Stopped = refl
-eviction_bodiless body (Recovered counter count) = refl
-eviction_bodiless body (RecItem key num) = refl
+eviction_bodiless body b = ap (λ (t : Telling). t.eviction) (telling_bodiless body b)
 
 pub kept_bodiless : IsBodiless is_kept
-kept_bodiless body (Sent op line) = refl
-kept_bodiless body (Numbered op num) = refl
-kept_bodiless body (Emitted op num near) = refl
-kept_bodiless body (Answered op) = refl
-kept_bodiless body (Admitted slot key tag) = refl
-kept_bodiless body (Evicted slot key tries) = refl
-kept_bodiless body (Kept slot key num) = refl
-kept_bodiless body (Snapped id point count same) = refl
-kept_bodiless body (SnapItem slot key num) = refl
-kept_bodiless body Stopped = refl
-kept_bodiless body (Recovered counter count) = refl
-kept_bodiless body (RecItem key num) = refl
+kept_bodiless body b = ap (λ (t : Telling). t.kept) (telling_bodiless body b)
 
 pub recovery_bodiless : IsBodiless is_recovery
-recovery_bodiless body (Sent op line) = refl
-recovery_bodiless body (Numbered op num) = refl
-recovery_bodiless body (Emitted op num near) = refl
-recovery_bodiless body (Answered op) = refl
-recovery_bodiless body (Admitted slot key tag) = refl
-recovery_bodiless body (Evicted slot key tries) = refl
-recovery_bodiless body (Kept slot key num) = refl
-recovery_bodiless body (Snapped id point count same) = refl
-recovery_bodiless body (SnapItem slot key num) = refl
-recovery_bodiless body Stopped = refl
-recovery_bodiless body (Recovered counter count) = refl
-recovery_bodiless body (RecItem key num) = refl
+recovery_bodiless body b = ap (λ (t : Telling). t.recovery) (telling_bodiless body b)
 
-pub same_bodiless : IsBodiless same_parts
-same_bodiless body (Sent op line) = refl
-same_bodiless body (Numbered op num) = refl
-same_bodiless body (Emitted op num near) = refl
-same_bodiless body (Answered op) = refl
-same_bodiless body (Admitted slot key tag) = refl
-same_bodiless body (Evicted slot key tries) = refl
-same_bodiless body (Kept slot key num) = refl
-same_bodiless body (Snapped id point count same) = refl
-same_bodiless body (SnapItem slot key num) = refl
-same_bodiless body Stopped = refl
-same_bodiless body (Recovered counter count) = refl
-same_bodiless body (RecItem key num) = refl
+same_bodiless : IsBodiless same_parts
+same_bodiless body b = ap (λ (t : Telling). t.same) (telling_bodiless body b)
 
-pub number_bodiless : IsBodiless number_given
-number_bodiless body (Sent op line) = refl
-number_bodiless body (Numbered op num) = refl
-number_bodiless body (Emitted op num near) = refl
-number_bodiless body (Answered op) = refl
-number_bodiless body (Admitted slot key tag) = refl
-number_bodiless body (Evicted slot key tries) = refl
-number_bodiless body (Kept slot key num) = refl
-number_bodiless body (Snapped id point count same) = refl
-number_bodiless body (SnapItem slot key num) = refl
-number_bodiless body Stopped = refl
-number_bodiless body (Recovered counter count) = refl
-number_bodiless body (RecItem key num) = refl
+number_bodiless : IsBodiless number_given
+number_bodiless body b = ap (λ (t : Telling). t.number) (telling_bodiless body b)
 
 -- the lines count as they do without their bodies
 sum_told : (f : LogEntry → ℕ) → IsBodiless f → (bytes : List ℕ) (stored : List Stored) → sum_by (λ s. f (bodiless s)) stored ≡ sum_by (λ l. f l.entry) (lines_in bytes stored)

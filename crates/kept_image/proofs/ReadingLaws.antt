@@ -1,9 +1,11 @@
 -- A text is read line by line.
 use Rattle.std.proofs.Common.{◌≡◌, ◌≢◌, ℕ, suc, ◌+◌, ◌≤◌, inl, inr, Bool, true, false, not, ◌&&◌, cond, List, [], ◌∷◌, ◌++◌, map, length, take, drop, refl, sym, ap, ◌∙◌, subst, Some, None, arith, append_assoc}
-use Rattle.std.specs.Prelude.{Result, Err, codes, bytes_eq, nat_eq}
+use Rattle.std.specs.Prelude.{Option, Result, Err, codes, bytes_eq, nat_eq}
 use Rattle.std.proofs.lemmas.Slice.Eq.{bytes_eq-Decides}
 use Rattle.std.proofs.lemmas.List.{append-nil}
 use Rattle.std.proofs.lemmas.Grind.{flat_map-append}
+use Rattle.far_base.specs.Padded.{length_of}
+use Rattle.far_base.specs.declared.body.TheConstants.{BODY_LIMIT}
 use Rattle.far_base.specs.declared.kept.KeptItem.{KeptItem}
 use Rattle.far_base.specs.declared.kept.KeptPlace.TheVariants.{Snap, Server, Client}
 use Rattle.far_base.specs.declared.record.Record.{Record}
@@ -11,11 +13,12 @@ use Rattle.far_model.specs.History.{Agree}
 use Rattle.far_model.specs.Kept.{records_in}
 use Rattle.far_model.specs.Members.{Each}
 use Rattle.far_text.specs.Pieces.{cut_at, ended, lacks, until}
+use Rattle.far_text.specs.Words.{IsBody}
 use Rattle.far_text.proofs.Digits.{both_true}
 use Rattle.far_text.proofs.Spelling.{cut_takes}
 use Rattle.kept_image.specs.Faults.{IsLineOf, IsFaultOfLine, IsFaultAt, HasImageFault, Blames}
 use Rattle.kept_image.specs.ImageText.{title_line, item_line, item_lines, end_line, image_text}
-use Rattle.kept_image.specs.Meaning.{IsItem, IsFront, IsImage, body_limit, told_item, told_place, AreTold}
+use Rattle.kept_image.specs.Meaning.{AreTold, AreWhole, CanBeTold, IsFront, IsImage, IsItem, HasVisibleBytes, IsWholeRecord, body_limit, told_item, told_place}
 use Rattle.kept_image.specs.declared.fault.ImageFault.{ImageFault}
 use Rattle.kept_image.specs.declared.fault.ImageFault.TheVariants.{BadLine, Conflict, Memory}
 use Rattle.kept_image.specs.declared.version.Version.{Version}
@@ -39,16 +42,27 @@ told_lines : (items : List KeptItem) → item_lines (map told_item items) ≡ it
 told_lines [] = refl
 told_lines (x ∷ xs) = ap (λ (l : List ℕ). l ++ item_lines (map told_item xs)) (told_line x) ∙ ap (λ (l : List ℕ). item_line x ++ l) (told_lines xs)
 
-told_records : (items : List KeptItem) → records_in (map told_item items) ≡ records_in items
+pub told_records : (items : List KeptItem) → records_in (map told_item items) ≡ records_in items
 told_records [] = refl
 told_records (x ∷ xs) = ap (λ (l : List Record). x.rec ∷ l) (told_records xs)
 
-pub written_reads : (items : List KeptItem) (text : List ℕ) → text ≡ image_text items → AreTold items → IsImage text (map told_item items)
-written_reads items text e h = record {
+told_fits : (item : KeptItem) → IsWholeRecord item.rec → CanBeTold item → IsItem BODY_LIMIT (told_item item)
+told_fits item whole can = record { place = can.place; key = whole.key; num = can.num; body = go item.rec.body whole.short can.body; short = whole.short; unwritten = can.unwritten }
+  where
+    go : (body : Option (List ℕ)) → length_of body ≤ BODY_LIMIT → HasVisibleBytes body → IsBody body
+    go None short visible = tt
+    go (Some text) short visible = (visible, short)
+
+told_fit : (items : List KeptItem) → AreWhole items → Each CanBeTold items → Each (IsItem BODY_LIMIT) (map told_item items)
+told_fit [] whole can = tt
+told_fit (x ∷ xs) whole can = (told_fits x whole.0 can.0, told_fit xs whole.1 can.1)
+
+pub written_reads : (items : List KeptItem) (text : List ℕ) → text ≡ image_text items → AreWhole items → AreTold items → IsImage text (map told_item items)
+written_reads items text e whole h = record {
   version = Second;
   front = record {
     spelled = e ∙ ap (λ (l : List ℕ). title_line Second ++ l ++ end_line) (sym (told_lines items));
-    fit = h.0;
+    fit = told_fit items whole h.0;
     agree = subst Agree (sym (told_records items)) h.1;
   };
 }

@@ -1,16 +1,17 @@
 -- What it means that a text is the image of a kept list.
-use Rattle.std.specs.Prelude.{◌≡◌, ℕ, ◌<◌, ◌≤◌, List, ◌++◌, map, None, Result, Ok, Err}
+use Rattle.std.specs.Prelude.{◌≡◌, ℕ, ◌<◌, ◌≤◌, List, ◌++◌, Option, None, Some, Result, Ok, Err}
 use Rattle.far_base.specs.Padded.{length_of}
 use Rattle.far_base.specs.declared.body.TheConstants.{BODY_LIMIT}
 use Rattle.far_base.specs.declared.kept.KeptItem.{KeptItem}
 use Rattle.far_base.specs.declared.kept.KeptPlace.{KeptPlace}
 use Rattle.far_base.specs.declared.kept.KeptPlace.TheVariants.{Snap, Server, Client}
 use Rattle.far_base.specs.declared.plan.TheConstants.{CLIENT_LIMIT}
+use Rattle.far_base.specs.declared.record.Record.{Record}
 use Rattle.far_model.specs.History.{Agree}
 use Rattle.far_model.specs.Kept.{records_in}
 use Rattle.far_model.specs.Members.{Each}
 use Rattle.far_text.specs.Numbers.{IsNumber}
-use Rattle.far_text.specs.Words.{IsKey, IsBody}
+use Rattle.far_text.specs.Words.{IsKey, IsBody, IsVisible}
 use Rattle.kept_image.specs.ImageText.{title_line, item_lines, end_line}
 use Rattle.kept_image.specs.declared.fault.ImageFault.{ImageFault}
 use Rattle.kept_image.specs.declared.fault.ImageFault.TheVariants.{BadLine, Conflict, Memory}
@@ -67,6 +68,25 @@ told_place (Client client) = Client client
 abbrev pub told_item : KeptItem → KeptItem
 told_item item = record { place = told_place item.place; rec = item.rec }
 
--- as their lines tell them, all of which can be read
+-- what the types of its key and its body give of a record
+pub record IsWholeRecord (r : Record) : Type 0 where
+  pub key : IsKey r.key
+  pub short : length_of r.body ≤ BODY_LIMIT
+
+abbrev pub AreWhole : List KeptItem → Type 0
+AreWhole items = Each (λ (item : KeptItem). IsWholeRecord item.rec) items
+
+abbrev pub HasVisibleBytes : Option (List ℕ) → Type 0
+HasVisibleBytes None = Unit {0}
+HasVisibleBytes (Some text) = IsVisible text
+
+-- what a line can tell of an item besides
+pub record CanBeTold (item : KeptItem) : Type 0 where
+  pub place : IsPlace (told_place item.place)
+  pub num : IsNumber item.rec.num
+  pub body : HasVisibleBytes item.rec.body
+  pub unwritten : item.rec.num ≡ 0 → item.rec.body ≡ None
+
+-- their lines can tell them, and they agree
 abbrev pub AreTold : List KeptItem → Type 0
-AreTold items = Each (IsItem BODY_LIMIT) (map told_item items) × Agree (records_in items)
+AreTold items = Each CanBeTold items × Agree (records_in items)

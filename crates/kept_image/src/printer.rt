@@ -3,12 +3,20 @@ ghost use Rattle.far_history.specs.Report as report;
 ghost use Rattle.far_text.specs.Text.{text_line};
 ghost use Rattle.kept_image.specs.ImageText.{record_words, item_line, item_lines, image_text};
 ghost use Rattle.kept_image.specs.MapText as maps;
-ghost use Rattle.kept_image.specs.Meaning.{AreTold, IsImage, told_item};
+ghost use Rattle.kept_image.specs.Meaning.{AreTold, AreWhole, IsImage, IsWholeRecord, told_item};
 
 use crate::image::Image;
 use far_base::{KeptItem, KeptPlace, Memory, Record};
 use far_text::{Word, put_line};
 use std::alloc::Global;
+
+/// The bytes of its key and the text of its body tell of a record what their types give.
+fn note_whole(rec: &Record)
+    ensures { IsWholeRecord rec.now }
+{
+    let _key = rec.key.bytes();
+    let _body = rec.body.text();
+}
 
 /// Writes a word and the words of the record.
 fn put_record_at<'a>(out: &mut Vec<u8>, place: &'a [u8], rec: &'a Record) -> Result<(), Memory>
@@ -41,8 +49,10 @@ fn put_client_record(out: &mut Vec<u8>, client: u32, rec: &Record) -> Result<(),
 }
 
 fn put_item(out: &mut Vec<u8>, item: &KeptItem) -> Result<(), Memory>
-    ensures { OnOk result (out.new.items ≡ out.old.items ++ item_line item.now) }
+    ensures text { OnOk result (out.new.items ≡ out.old.items ++ item_line item.now) }
+    ensures whole { IsWholeRecord item.now.rec }
 {
+    note_whole(&item.rec);
     match item.place {
         KeptPlace::Snap => put_record_at(out, b"snap", &item.rec),
         KeptPlace::Server(_) => put_record_at(out, b"server", &item.rec),
@@ -51,7 +61,8 @@ fn put_item(out: &mut Vec<u8>, item: &KeptItem) -> Result<(), Memory>
 }
 
 fn put_items(out: &mut Vec<u8>, items: &[KeptItem]) -> Result<(), Memory>
-    ensures { OnOk result (out.new.items ≡ out.old.items ++ item_lines items.now) }
+    ensures text { OnOk result (out.new.items ≡ out.old.items ++ item_lines items.now) }
+    ensures whole { OnOk result (AreWhole items.now) }
 {
     for item in items {
         put_item(out, item)?;

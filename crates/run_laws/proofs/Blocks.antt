@@ -1,8 +1,8 @@
--- Each restart that the log tells of left the newest of what was kept, no older than any answer before.
+-- The log tells of each restart, in order; each left the newest of what was kept, no older than any answer before.
 use Rattle.far_invariants.specs.Covers.{look}
 use Rattle.far_invariants.specs.Holds.{Holds}
-use Rattle.std.proofs.Common.{◌≡◌, ℕ, zero, suc, ◌+◌, ◌<◌, ◌≤◌, ◌⊎◌, inl, inr, true, false, leb, List, [], ◌∷◌, ◌++◌, length, map, refl, sym, ap, ◌∙◌, subst, arith, le_trans}
-use Rattle.std.specs.Prelude.{Some, is_some}
+use Rattle.std.proofs.Common.{◌≡◌, ◌≢◌, ℕ, zero, suc, ◌+◌, ◌<◌, ◌≤◌, ◌⊎◌, inl, inr, true, false, leb, List, [], ◌∷◌, ◌++◌, length, map, refl, sym, ap, ◌∙◌, subst, arith, le_trans}
+use Rattle.std.specs.Prelude.{Option, None, Some, is_some}
 use Rattle.std.specs.Ordering.{nat_cmp}
 use Rattle.std.specs.Cmp.Lexicographic.{slice_cmp}
 use Rattle.std.proofs.lemmas.Bool.Decides.{leb_tells}
@@ -19,8 +19,8 @@ use Rattle.far_base.specs.declared.record.Record.{Record}
 use Rattle.far_model.specs.Blocks.{RecoveredBlock, block_at, recovered_blocks, recovered_items}
 use Rattle.far_model.specs.Clients.{line_of}
 use Rattle.far_model.specs.Controller.{ready}
-use Rattle.far_model.specs.Events.{all_listed, all_records, happens, keeping_of, recovery_items}
-use Rattle.far_model.specs.History.{IsKeyBefore}
+use Rattle.far_model.specs.Events.{all_listed, all_records, happens, is_enabled, keeping_of, recovery_items, restarts}
+use Rattle.far_model.specs.History.{IsKeyBefore, IsNewestPerKey}
 use Rattle.far_model.specs.Kept.{kept_after, kept_at_recovery, records_in}
 use Rattle.far_model.specs.KeyedRecords.{found}
 use Rattle.far_model.specs.Log.{exposed}
@@ -37,11 +37,13 @@ use Rattle.flight_laws.proofs.Lists.{each_map}
 use Rattle.flight_laws.proofs.Noting.{event_notes}
 use Rattle.history_laws.proofs.Unique.{key_strict}
 use Rattle.record_laws.proofs.Meanings.{log_sound}
+use Rattle.recovery_laws.proofs.Begun.{is_restart}
 use Rattle.recovery_laws.proofs.Exposing.{exposed_within}
 use Rattle.recovery_laws.proofs.KeptLists.{all_there}
 use Rattle.recovery_laws.proofs.Laws.{restart_restores}
 use Rattle.run_laws.proofs.Holding.{seats_need, stops_need}
 use Rattle.run_laws.proofs.Steps.{holds}
+use Rattle.run_laws.specs.RestartBlocks.{block_by, block_with, restart_blocks}
 
 -- ---- blocks of a log that grows
 
@@ -148,27 +150,34 @@ module _ (plan : PlanView) (before : List Event) (valid : IsPlan plan) (runs : I
   its : Holds plan (past_of plan before) here
   its = holds plan before valid runs
 
-  restart_block : (counter : ℕ) → ready here.controller ≡ Some counter
-      → BlockIsRestart plan (before ++ Restart ∷ []) (record { moment = now here; counter = counter; records = all_listed here.servers })
-  restart_block counter able = record {
-    earlier = before;
-    later = [];
-    split = refl;
-    moment_is = refl;
-    listed = refl;
-    newest = subst (λ k. Rattle.far_model.specs.History.IsNewestPerKey k (all_listed here.servers)) kept_is restored.newest;
-    no_older = no_older;
-    counter = restorable.own;
-  }
-    where
-      restorable : Rattle.far_invariants.specs.SeatNeeds.IsRestorable plan here counter
-      restorable = (seats_need plan (past_of plan before) here valid its).restorable counter able
+  restorable : (counter : ℕ) → ready here.controller ≡ Some counter → Rattle.far_invariants.specs.SeatNeeds.IsRestorable plan here counter
+  restorable counter able = (seats_need plan (past_of plan before) here valid its).restorable counter able
 
+  -- the servers have the newest of what was kept
+  pub restart_newest : is_some (ready here.controller) ≡ true → IsNewestPerKey (records_in (kept_at_recovery plan before)) (all_listed here.servers)
+  restart_newest can = subst (λ k. IsNewestPerKey k (all_listed here.servers)) kept_is restored.newest
+    where
       restored : Rattle.far_invariants.specs.Restarts.IsRestored plan (recovered_last (past_of plan before)) here (happens plan here Restart)
-      restored = restart_restores plan (recovered_last (past_of plan before)) here its.stops (stops_need plan (past_of plan before) here valid its) (ap is_some able)
+      restored = restart_restores plan (recovered_last (past_of plan before)) here its.stops (stops_need plan (past_of plan before) here valid its) can
 
       kept_is : recovered_last (past_of plan before) ≡ records_in (kept_at_recovery plan before)
       kept_is = ap records_in (recovered_is plan (opening plan) no_past [] before refl)
+
+  restart_block : (counter : ℕ) (later : List Event) → ready here.controller ≡ Some counter
+      → BlockIsRestart plan (before ++ Restart ∷ later) (record { moment = now here; counter = counter; records = all_listed here.servers })
+  restart_block counter later able = record {
+    earlier = before;
+    later = later;
+    split = refl;
+    moment_is = refl;
+    listed = refl;
+    newest = newest;
+    no_older = no_older;
+    counter = (restorable counter able).own;
+  }
+    where
+      newest : IsNewestPerKey (records_in (kept_at_recovery plan before)) (all_listed here.servers)
+      newest = restart_newest (ap is_some able)
 
       listed_more : (key : List ℕ) → (look plan here key).num ≤ (found (all_listed here.servers) key).num
       listed_more key = by (leb_tells (look plan here key).num 0)
@@ -178,73 +187,92 @@ module _ (plan : PlanView) (before : List Event) (valid : IsPlan plan) (runs : I
           by (inr p) =
               let f = found_some (records_at here (server_of plan.config key)) key p.1 in
               let there = by_key_there f.item (all_records here.servers) (all_there here.servers (server_of plan.config key) f.item f.there) in
-              let same = found_member f.item (all_listed here.servers) (pairs_part IsKeyBefore Apart (all_listed here.servers) keys_apart restored.newest.ordered) there in
+              let same = found_member f.item (all_listed here.servers) (pairs_part IsKeyBefore Apart (all_listed here.servers) keys_apart newest.ordered) there in
               let num = ap (λ (w : Rattle.far_base.specs.declared.record.Versioned.Versioned). w.num) same in
               let key_is = ap (λ k. (found (all_listed here.servers) k).num) f.on_key in
               let its_num = ap (λ (w : Rattle.far_base.specs.declared.record.Versioned.Versioned). w.num) f.is in
               omega (arith, num, key_is, its_num)
 
       no_older : (key : List ℕ) (moment : ℕ) → exposed here.log key moment ≤ (found (all_listed here.servers) key).num
-      no_older key moment = le_trans (exposed_within plan here.log (log_sound plan here its.keeps).by_plan key moment _ (restorable.shown key)) (listed_more key)
+      no_older key moment = le_trans (exposed_within plan here.log (log_sound plan here its.keeps).by_plan key moment _ ((restorable counter able).shown key)) (listed_more key)
+
+-- ---- all restarts
+
+pub restart_append : (plan : PlanView) (s : State) (xs ys : List Event) → restart_blocks plan s (xs ++ ys) ≡ restart_blocks plan s xs ++ restart_blocks plan (run plan s xs) ys
+restart_append plan s [] ys = refl
+restart_append plan s (e ∷ es) ys = ap (λ b. block_by s e ++ b) (restart_append plan (happens plan s e) es ys)
+    ∙ sym (append_assoc (block_by s e) (restart_blocks plan (happens plan s e) es) (restart_blocks plan (run plan (happens plan s e) es) ys))
+
+pub no_block : (s : State) (e : Event) → e ≢ Restart → block_by s e ≡ []
+no_block s Restart h = absurd (h refl)
+no_block s (Send c) h = refl
+no_block s (Deliver i) h = refl
+no_block s Tick h = refl
+no_block s Recover h = refl
+no_block s (OrderOf j) h = refl
+
+-- a restart that is possible has its counter
+pub counter_of : (s : State) → is_some (ready s.controller) ≡ true → (counter : ℕ) × (ready s.controller ≡ Some counter)
+counter_of s can = go (ready s.controller) refl can
+  where
+    go : (o : Option ℕ) → ready s.controller ≡ o → is_some o ≡ true → (counter : ℕ) × (ready s.controller ≡ Some counter)
+    go None e k = absurd cc
+    go (Some counter) e k = (counter, e)
 
 -- ---- every event
 
 record Blocks (plan : PlanView) (events : List Event) (s : State) : Type 0 where
   whole : AreWhole s.log
-  blocks : BlocksAreRestarts plan events s
+  told : recovered_blocks s.log ≡ restart_blocks plan (opening plan) events
 
-longer : (plan : PlanView) (before : List Event) (e : Event) (block : RecoveredBlock) → BlockIsRestart plan before block → BlockIsRestart plan (before ++ e ∷ []) block
-longer plan before e block b = record {
-  earlier = b.earlier;
-  later = b.later ++ e ∷ [];
-  split = ap (λ (es : List Event). es ++ e ∷ []) b.split ∙ append_assoc b.earlier (Restart ∷ b.later) (e ∷ []);
-  moment_is = b.moment_is;
-  listed = b.listed;
-  newest = b.newest;
-  no_older = b.no_older;
-  counter = b.counter;
-}
+module _ (plan : PlanView) (before : List Event) (h : Blocks plan before (run plan (opening plan) before)) where
+  abbrev now_here : State
+  now_here = run plan (opening plan) before
 
-module _ (plan : PlanView) (before : List Event) (valid : IsPlan plan) (runs : IsRun plan (opening plan) before) (e : Event) (t : State) (h : Blocks plan before (run plan (opening plan) before)) where
-  old : Each (BlockIsRestart plan (before ++ e ∷ [])) (recovered_blocks (run plan (opening plan) before).log)
-  old = each_map (BlockIsRestart plan before) (BlockIsRestart plan (before ++ e ∷ [])) (recovered_blocks (run plan (opening plan) before).log) (λ b k. longer plan before e b k) h.blocks
+  abbrev so_far : List RecoveredBlock
+  so_far = restart_blocks plan (opening plan) before
 
-  plainly : (notes : List LogEntry) → t.log ≡ noted (run plan (opening plan) before) notes → Each IsNoBlock notes → Blocks plan (before ++ e ∷ []) t
-  plainly notes log plain =
-      let s = run plan (opening plan) before in
-      let lines = map (line_at (now s)) notes in
-      let p = plain_blocks (now s) notes plain in
-      let all = ap recovered_blocks log ∙ blocks_append s.log lines h.whole ∙ ap (λ b. recovered_blocks s.log ++ b) p.0 ∙ append-nil (recovered_blocks s.log) in
+  one_more : (e : Event) → restart_blocks plan (opening plan) (before ++ e ∷ []) ≡ so_far ++ block_by now_here e
+  one_more e = restart_append plan (opening plan) before (e ∷ []) ∙ ap (λ b. so_far ++ b) (append-nil (block_by now_here e))
+
+  plainly : (e : Event) (t : State) (notes : List LogEntry) → e ≢ Restart → t.log ≡ noted now_here notes → Each IsNoBlock notes → Blocks plan (before ++ e ∷ []) t
+  plainly e t notes other log plain =
+      let lines = map (line_at (now now_here)) notes in
+      let p = plain_blocks (now now_here) notes plain in
       record {
-        whole = subst AreWhole (sym log) (whole_append s.log lines h.whole p.1);
-        blocks = subst (Each (BlockIsRestart plan (before ++ e ∷ []))) (sym all) old;
+        whole = subst AreWhole (sym log) (whole_append now_here.log lines h.whole p.1);
+        told = ap recovered_blocks log ∙ blocks_append now_here.log lines h.whole ∙ ap (λ b. recovered_blocks now_here.log ++ b) p.0 ∙ append-nil (recovered_blocks now_here.log)
+            ∙ h.told ∙ sym (append-nil so_far) ∙ sym (one_more e ∙ ap (λ b. so_far ++ b) (no_block now_here e other));
       }
 
-  grows : EventNotes plan (keeping_of (run plan (opening plan) before) e) (run plan (opening plan) before) e t → Blocks plan (before ++ e ∷ []) t
-  grows (OfSending c op left none is log are) = plainly (Sent op (line_of plan.ops op) ∷ []) log (tt, tt)
-  grows (OfAnswer c op waits log are) = plainly (Answered op ∷ []) log (tt, tt)
-  grows (OfPass c op notes waits log each few on) = plainly notes log (each_map (IsPassNote op) IsNoBlock notes (pass_plain op) each)
-  grows (OfNone notes log each on) = plainly notes log (each_map IsOfNone IsNoBlock notes none_plain each)
-  grows (OfRestart counter is able log on) =
-      let s = run plan (opening plan) before in
-      let records = all_listed s.servers in
-      let lines = map (line_at (now s)) (Recovered counter (length records) ∷ recovery_items records) in
-      let p = plain_blocks (now s) (recovery_items records) (items_plain records) in
-      let block : RecoveredBlock = record { moment = now s; counter = counter; records = records } in
+  restarted : (counter : ℕ) → ready now_here.controller ≡ Some counter → Blocks plan (before ++ Restart ∷ []) (happens plan now_here Restart)
+  restarted counter able =
+      let records = all_listed now_here.servers in
+      let lines = map (line_at (now now_here)) (Recovered counter (length records) ∷ recovery_items records) in
+      let log : (happens plan now_here Restart).log ≡ now_here.log ++ lines = ap (λ o. (restarts plan (keeping_of now_here Restart) now_here o).log) able in
+      let p = plain_blocks (now now_here) (recovery_items records) (items_plain records) in
+      let block : RecoveredBlock = record { moment = now now_here; counter = counter; records = records } in
       let one : recovered_blocks lines ≡ block ∷ [] =
-      ap (λ rs. record { moment = now s; counter = counter; records = rs } ∷ recovered_blocks (map (line_at (now s)) (recovery_items records))) (items_back (now s) records)
+      ap (λ rs. record { moment = now now_here; counter = counter; records = rs } ∷ recovered_blocks (map (line_at (now now_here)) (recovery_items records))) (items_back (now now_here) records)
       ∙ ap (λ b. block ∷ b) p.0 in
-      let all = ap recovered_blocks log ∙ blocks_append s.log lines h.whole ∙ ap (λ b. recovered_blocks s.log ++ b) one in
-      let new = subst (λ x. BlockIsRestart plan (before ++ x ∷ []) block) (sym is) (restart_block plan before valid runs counter able) in
       record {
-        whole = subst AreWhole (sym log) (whole_append s.log lines h.whole (let n = items_length (now s) records in omega (arith, n), p.1));
-        blocks = subst (Each (BlockIsRestart plan (before ++ e ∷ []))) (sym all) (each_both (recovered_blocks s.log) old new);
+        whole = subst AreWhole (sym log) (whole_append now_here.log lines h.whole (let n = items_length (now now_here) records in omega (arith, n), p.1));
+        told = ap recovered_blocks log ∙ blocks_append now_here.log lines h.whole ∙ ap (λ b. recovered_blocks now_here.log ++ b) one ∙ ap (λ b. b ++ block ∷ []) h.told
+            ∙ sym (one_more Restart ∙ ap (λ o. so_far ++ block_with now_here o) able);
       }
+
+  grows : (e : Event) → is_enabled plan now_here e ≡ true → EventNotes plan (keeping_of now_here e) now_here e (happens plan now_here e) → Blocks plan (before ++ e ∷ []) (happens plan now_here e)
+  grows e can notes = go (is_restart e) notes
     where
-      each_both : {block : RecoveredBlock} (xs : List RecoveredBlock) → Each (BlockIsRestart plan (before ++ e ∷ [])) xs → BlockIsRestart plan (before ++ e ∷ []) block
-          → Each (BlockIsRestart plan (before ++ e ∷ [])) (xs ++ block ∷ [])
-      each_both [] o n = (n, tt)
-      each_both (x ∷ xs) o n = (o.0, each_both xs o.1 n)
+      go : (e ≡ Restart) ⊎ (e ≢ Restart) → EventNotes plan (keeping_of now_here e) now_here e (happens plan now_here e) → Blocks plan (before ++ e ∷ []) (happens plan now_here e)
+      go (inl is) n =
+          let able = counter_of now_here (subst (λ (w : Event). is_enabled plan now_here w ≡ true) is can) in
+          subst (λ (w : Event). Blocks plan (before ++ w ∷ []) (happens plan now_here w)) (sym is) (restarted able.0 able.1)
+      go (inr other) (OfSending c op left none is log are) = plainly e (happens plan now_here e) (Sent op (line_of plan.ops op) ∷ []) other log (tt, tt)
+      go (inr other) (OfAnswer c op waits log are) = plainly e (happens plan now_here e) (Answered op ∷ []) other log (tt, tt)
+      go (inr other) (OfPass c op notes waits log each few on) = plainly e (happens plan now_here e) notes other log (each_map (IsPassNote op) IsNoBlock notes (pass_plain op) each)
+      go (inr other) (OfNone notes log each on) = plainly e (happens plan now_here e) notes other log (each_map IsOfNone IsNoBlock notes none_plain each)
+      go (inr other) (OfRestart counter is able log on) = absurd (other is)
 
 blocks_run : (plan : PlanView) (before after : List Event) → IsPlan plan → IsRun plan (opening plan) (before ++ after) → Blocks plan before (run plan (opening plan) before)
     → Blocks plan (before ++ after) (run plan (opening plan) (before ++ after))
@@ -254,10 +282,38 @@ blocks_run plan before (e ∷ es) valid r h =
     let rest = is_run_right plan (opening plan) before (e ∷ es) r in
     let s = run plan (opening plan) before in
     let held = (holds plan before valid first).flight in
-    let next = grows plan before valid first e (happens plan s e) h (event_notes plan (keeping_of s e) s held.routed held.one e rest.0) in
+    let next = grows plan before h e rest.0 (event_notes plan (keeping_of s e) s held.routed held.one e rest.0) in
     let same : (before ++ e ∷ []) ++ es ≡ before ++ e ∷ es = append_assoc before (e ∷ []) es in
     let there : Blocks plan (before ++ e ∷ []) (run plan (opening plan) (before ++ e ∷ [])) = subst (Blocks plan (before ++ e ∷ [])) (sym (run_append plan (opening plan) before (e ∷ []))) next in
     subst (λ xs. Blocks plan xs (run plan (opening plan) xs)) same (blocks_run plan (before ++ e ∷ []) es valid (subst (λ xs. IsRun plan (opening plan) xs) (sym same) r) there)
 
+pub restarts_are_told : (plan : PlanView) (events : List Event) → IsPlan plan → IsRun plan (opening plan) events → recovered_blocks (run plan (opening plan) events).log ≡ restart_blocks plan (opening plan) events
+restarts_are_told plan events valid r = (blocks_run plan [] events valid r (record { whole = tt; told = refl })).told
+
+-- ---- what each of them left
+
+pub each_append : {A : Type 0} (P : A → Type 0) (xs ys : List A) → Each P xs → Each P ys → Each P (xs ++ ys)
+each_append P [] ys h k = k
+each_append P (x ∷ xs) ys h k = (h.0, each_append P xs ys h.1 k)
+
+each_restart : (plan : PlanView) (before after : List Event) → IsPlan plan → IsRun plan (opening plan) (before ++ after) → Each (BlockIsRestart plan (before ++ after)) (restart_blocks plan (run plan (opening plan) before) after)
+each_restart plan before [] valid r = tt
+each_restart plan before (e ∷ es) valid r =
+    let s = run plan (opening plan) before in
+    let first = is_run_left plan (opening plan) before (e ∷ es) r in
+    let rest = is_run_right plan (opening plan) before (e ∷ es) r in
+    let same : (before ++ e ∷ []) ++ es ≡ before ++ e ∷ es = append_assoc before (e ∷ []) es in
+    let more = each_restart plan (before ++ e ∷ []) es valid (subst (λ xs. IsRun plan (opening plan) xs) (sym same) r) in
+    let there = subst (λ xs. Each (BlockIsRestart plan xs) (restart_blocks plan (run plan (opening plan) (before ++ e ∷ [])) es)) same more in
+    let later = subst (λ (t : State). Each (BlockIsRestart plan (before ++ e ∷ es)) (restart_blocks plan t es)) (run_append plan (opening plan) before (e ∷ [])) there in
+    each_append (BlockIsRestart plan (before ++ e ∷ es)) (block_by s e) (restart_blocks plan (happens plan s e) es) (by first (is_restart e) rest.0) later
+  where
+    by : IsRun plan (opening plan) before → (e ≡ Restart) ⊎ (e ≢ Restart) → is_enabled plan (run plan (opening plan) before) e ≡ true → Each (BlockIsRestart plan (before ++ e ∷ es)) (block_by (run plan (opening plan) before) e)
+    by first (inl is) can =
+        let able = counter_of (run plan (opening plan) before) (subst (λ (w : Event). is_enabled plan (run plan (opening plan) before) w ≡ true) is can) in
+        subst (λ (w : Event). Each (BlockIsRestart plan (before ++ w ∷ es)) (block_by (run plan (opening plan) before) w)) (sym is)
+        (subst (λ o. Each (BlockIsRestart plan (before ++ Restart ∷ es)) (block_with (run plan (opening plan) before) o)) (sym able.1) (restart_block plan before valid first able.0 es able.1, tt))
+    by first (inr other) can = subst (Each (BlockIsRestart plan (before ++ e ∷ es))) (sym (no_block (run plan (opening plan) before) e other)) tt
+
 pub blocks_are_restarts : (plan : PlanView) (events : List Event) → IsPlan plan → IsRun plan (opening plan) events → BlocksAreRestarts plan events (run plan (opening plan) events)
-blocks_are_restarts plan events valid r = (blocks_run plan [] events valid r (record { whole = tt; blocks = tt })).blocks
+blocks_are_restarts plan events valid r = subst (Each (BlockIsRestart plan events)) (sym (restarts_are_told plan events valid r)) (each_restart plan [] events valid r)

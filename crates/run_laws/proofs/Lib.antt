@@ -6,8 +6,10 @@ pub mod Emptied
 pub mod Emptying
 pub mod Events
 pub mod Everywhere
+pub mod FirstRestart
 pub mod Holding
 pub mod Kept
+pub mod KeptItems
 pub mod Meeting
 pub mod Moving
 pub mod Needing

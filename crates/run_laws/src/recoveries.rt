@@ -1,22 +1,27 @@
 //! What outlives a stop, and what a recovery restores.
 
-ghost use Rattle.std.specs.Prelude.{◌≡◌, ℕ, ◌<◌, true, List, Some, slice_get};
+ghost use Rattle.std.specs.Prelude.{◌≡◌, ◌≢◌, ℕ, ◌<◌, true, List, ◌∷◌, ◌++◌, Some, slice_get};
+ghost use Rattle.far_base.specs.Limits.{IsPlan};
+ghost use Rattle.far_base.specs.PlanView.{PlanView};
 ghost use Rattle.far_base.specs.declared.event.Event.{Event};
-ghost use Rattle.far_base.specs.declared.event.Event.TheVariants.{Deliver, Restart};
+ghost use Rattle.far_base.specs.declared.event.Event.TheVariants.{Deliver, Recover, Restart};
 ghost use Rattle.far_base.specs.declared.packet.Message.{Message};
 ghost use Rattle.far_base.specs.declared.packet.Packet.TheVariants.{Release};
 ghost use Rattle.far_base.specs.declared.party.Party.TheVariants.{Client};
 ghost use Rattle.far_base.specs.declared.record.Record.{Record};
+ghost use Rattle.far_model.specs.Blocks.{recovered_blocks};
 ghost use Rattle.far_model.specs.Events.{happens, is_enabled};
-ghost use Rattle.far_model.specs.Members.{Among};
+ghost use Rattle.far_model.specs.Members.{Among, Each};
 ghost use Rattle.far_model.specs.Rounds.{Round};
-ghost use Rattle.far_model.specs.State.{client_at};
+ghost use Rattle.far_model.specs.Runs.{IsRun, is_quiet, run};
+ghost use Rattle.far_model.specs.State.{client_at, opening};
 ghost use Rattle.far_invariants.specs.Always.{Always};
 ghost use Rattle.far_invariants.specs.Past.{past_of};
 ghost use Rattle.far_invariants.specs.Recoveries.{BlocksAreRestarts, RecoversAfter, recovered_last};
 ghost use Rattle.far_invariants.specs.Restarts.{IsRestored};
 ghost use Rattle.far_invariants.specs.RoundFlights.{RoundInFlight};
 ghost use Rattle.far_invariants.specs.Stops.{AbsorbedIsKept, Stops};
+ghost use Rattle.run_laws.specs.RestartBlocks.{BeginsWithRecovery, restart_blocks};
 
 /// An absorbed number is covered by its server, the last completed snapshot, a preserved record or a kept answer on its
 /// way; and during a round of recovery whatever is to be restored is at its server or on its way there.
@@ -34,6 +39,20 @@ pub fn restarts_restore()
     ensures blocks { Always (λ plan events s. BlocksAreRestarts plan events s) }
     ensures begun { Always (λ plan events s. is_enabled plan s Restart ≡ true → (before : List Event)
         × RecoversAfter events before) }
+{}
+
+/// The log tells of each restart of the run by one block, in their order.
+pub fn restarts_are_told()
+    ensures { Always (λ plan events s. recovered_blocks s.log ≡ restart_blocks plan (opening plan) events) }
+{}
+
+/// Where a recovery has begun and nothing can happen any more, the log tells of a restart; and the first that it tells
+/// of left the newest of what was kept when the first recovery began.
+pub fn first_restart_restores()
+    ensures { (plan : PlanView) (before after : List Event) → IsPlan plan
+        → IsRun plan (opening plan) (before ++ Recover ∷ after) → Each (λ (e : Event). e ≢ Recover) before
+        → is_quiet plan (run plan (opening plan) (before ++ Recover ∷ after)) ≡ true
+        → BeginsWithRecovery (run plan (opening plan) before) (run plan (opening plan) (before ++ Recover ∷ after)).log }
 {}
 
 /// A round is under way only while the switch is stopped, and all that it waits for is on its way.
