@@ -5,5 +5,6 @@ mod Keepings
 mod Orders
 mod Readings
 mod Replays
+mod Restoring
 mod Stopping
 mod Taskings

@@ -1,6 +1,6 @@
 -- What is told of a world that was run to its end by the picks of a workload is what running it gives.
-use Rattle.std.proofs.Common.{◌≡◌, ℕ, ◌≤◌, true, List, [], ◌++◌, Some, None, refl, sym, ap, ◌∙◌, subst}
-use Rattle.std.specs.Prelude.{IfOk, IfSome, Option, Result, Ok, Err}
+use Rattle.std.proofs.Common.{◌≡◌, ℕ, List, [], ◌++◌, Some, None, sym, ap, ◌∙◌, subst}
+use Rattle.std.specs.Prelude.{IfOk, Option, Result, Ok, Err}
 use Rattle.far_base.specs.PlanView.{PlanView}
 use Rattle.far_base.specs.declared.event.Event.{Event}
 use Rattle.far_base.specs.declared.record.Record.{Record}
@@ -8,7 +8,7 @@ use Rattle.far_invariants.specs.Always.{Always}
 use Rattle.far_invariants.specs.Recoveries.{BlocksAreRestarts}
 use Rattle.far_model.specs.Answered.{AllAnswered}
 use Rattle.far_model.specs.History.{HasOneLegalHistory}
-use Rattle.far_model.specs.Runs.{IsPickedFrom, IsRun, is_finished, run}
+use Rattle.far_model.specs.Runs.{IsPickedFrom, IsRun, run}
 use Rattle.far_model.specs.State.{State, opening}
 use Rattle.far_runner.specs.Picked.{pick_of}
 use Rattle.far_runner.specs.Pumped.{HasPumped}
@@ -24,6 +24,10 @@ use Rattle.run_main.specs.declared.task.Task.TheVariants.{Run}
 pub ok_map : {T E : Type 0} → (P Q : T → Type 0) (r : Result T E) → ((x : T) → P x → Q x) → IfOk r P → IfOk r Q
 ok_map P Q (Ok x) f h = f x h
 ok_map P Q (Err e) f h = tt
+
+pub ok_both : {T E : Type 0} → (P Q : T → Type 0) (r : Result T E) → IfOk r P → IfOk r Q → IfOk r (λ x. P x × Q x)
+ok_both P Q (Ok x) h k = (h, k)
+ok_both P Q (Err e) h k = tt
 
 -- only the picks of the workload are asked for
 pub same_picks : (work : WorkView) (plan : PlanView) (old new : Ran) (count : ℕ) → HasPumped work old new count → HasPumped (record work { plan = plan }) old new count

@@ -1,5 +1,5 @@
 -- What running a workload until a recovery begins gives, and what merging a kept list gives.
-use Rattle.std.specs.Prelude.{◌≡◌, ◌≢◌, ℕ, if◌then◌else◌, Bool, List, [], ◌∷◌, ◌++◌}
+use Rattle.std.specs.Prelude.{◌≡◌, ◌≢◌, ℕ, if◌then◌else◌, Bool, List, [], ◌∷◌, ◌++◌, map}
 use Rattle.std.specs.List.{list_any}
 use Rattle.far_base.specs.Limits.{is_stop}
 use Rattle.far_base.specs.PlanView.{PlanView}
@@ -18,6 +18,7 @@ use Rattle.far_runner.specs.Picked.{pick_of}
 use Rattle.far_runner.specs.Pumped.{ArePicked}
 use Rattle.kept_image.specs.ImageText.{image_text}
 use Rattle.kept_image.specs.MapText.{map_text}
+use Rattle.kept_image.specs.Meaning.{IsImage, told_item}
 use Rattle.workload.specs.WorkView.{WorkView}
 use Rattle.run_main.specs.Replay.{state_after}
 
@@ -38,12 +39,13 @@ pub record IsPickedToRecovery (work : WorkView) (events : List Event) : Type 0 w
   pub picked : ArePicked work.plan (pick_of work) 0 (opening work.plan) (events ++ Recover ∷ [])
   pub first : Each (λ (event : Event). event ≢ Recover) events
 
--- the text is the image of what was kept when the first recovery of the run of the workload by its picks began. These
--- are the servers' records after that
+-- the text is the image of what was kept when the first recovery of the run of the workload by its picks began, and
+-- reads as that. These are the servers' records after that
 pub record IsImageOf (work : WorkView) (text : List ℕ) (records : List (List Record)) : Type 0 where
   pub events : List Event
   pub runs : IsPickedToRecovery work events
   pub image : text ≡ image_text (kept_records (state_after work events))
+  pub reads : IsImage text (map told_item (kept_records (state_after work events)))
   pub servers : records ≡ (state_after work (events ++ Recover ∷ [])).servers
 
 -- the text is the map that a recovery makes of the kept list: for each key the newest record

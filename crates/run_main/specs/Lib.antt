@@ -3,6 +3,7 @@ pub mod Images
 pub mod Inputs
 pub mod Lines
 pub mod Replay
+pub mod Restoring
 pub mod Run
 pub mod Saying
 pub mod Status

@@ -1,10 +1,11 @@
-ghost use Rattle.std.specs.Prelude.{◌≡◌, ◌≤◌, [], true, is_some, IfOk, IfErr, IfSome};
+ghost use Rattle.std.specs.Prelude.{◌≡◌, ◌≤◌, [], map, true, is_some, IfOk, IfErr, IfSome};
 ghost use Rattle.far_base.specs.Limits.{is_stop};
 ghost use Rattle.far_model.specs.Kept.{kept_records};
 ghost use Rattle.far_model.specs.State.{opening};
 ghost use Rattle.far_outside.specs.Faults.{Rose};
 ghost use Rattle.far_world.specs.Reached.{with_count};
 ghost use Rattle.kept_image.specs.ImageText.{image_text};
+ghost use Rattle.kept_image.specs.Meaning.{AreTold, IsImage, told_item};
 ghost use Rattle.workload.specs.Plain.{IsPlain};
 ghost use Rattle.run_main.specs.Images.{IsImageOf, has_stop, with_stop};
 ghost use Rattle.run_main.specs.Replay.{Tells};
@@ -57,6 +58,7 @@ fn with_stop(load: Workload) -> Result<Workload, Memory>
 /// The image of what would be kept if the switch lost its memory now.
 fn image_of<K: Keeper + Drop>(alloc: Global, world: &mut World<Cache, K>) -> Result<Vec<u8>, Status>
     ensures text { Tells world.old.keeper.records → IfOk result (λ text. text.items ≡ image_text (kept_records world.old.state)) }
+    ensures reads { Tells world.old.keeper.records → IfOk result (λ text. AreTold (kept_records world.old.state) → IsImage text.items (map told_item (kept_records world.old.state))) }
     ensures fault { IfErr result (IsRunFault (Rose world.old.keeper.faults world.new.keeper.faults)) }
     ensures later { world.old.keeper.faults ≤ world.new.keeper.faults }
     ensures world { world.new ≡ with_count world.old world.new.keeper.faults }
@@ -85,6 +87,7 @@ fn run_to_recovery<K: Keeper + Drop>(
     ensures later { world.keeper.faults ≤ K.fault_count result.keeper }
     ensures tells { is_some (K.records result.keeper) ≡ is_some world.keeper.records }
 {
+    run_laws::kept_lists_are_written();
     let mut world = world;
     if let Err(fault) = pump_to_recover(&mut world, load) {
         return handed_back(world, Err(status_of_fault(fault)));

@@ -3,6 +3,7 @@
 
 mod command;
 mod keeping;
+mod laws;
 mod making;
 mod merging;
 mod reading;
@@ -15,6 +16,7 @@ mod task;
 mod top;
 
 pub use command::{Command, command_of};
+pub use laws::images_restore;
 pub use run::{RunEnded, top_run};
 pub use status::Status;
 pub use top::{Ended, INPUT_LIMIT, top_calm, top_calm_in_memory};
