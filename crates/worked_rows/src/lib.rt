@@ -5,6 +5,14 @@
 #[cfg(test)]
 mod calls;
 #[cfg(test)]
+mod commands;
+#[cfg(test)]
+mod replays;
+#[cfg(test)]
 mod rows;
+#[cfg(test)]
+mod runs;
+#[cfg(test)]
+mod tables;
 #[cfg(test)]
 mod tests;
