@@ -13,6 +13,8 @@ mod rows;
 #[cfg(test)]
 mod runs;
 #[cfg(test)]
+mod seen;
+#[cfg(test)]
 mod tables;
 #[cfg(test)]
 mod tests;
