@@ -6,6 +6,7 @@ use Rattle.far_model.specs.Clients.{ClientState, line_of, no_line, request, scri
 use Rattle.far_model.specs.Events.{can_send, has_next, next_sent}
 use Rattle.far_model.specs.Members.{Among}
 use Rattle.far_model.specs.State.{clients_from}
+use Rattle.far_base.specs.Padded.{text_of}
 use Rattle.far_base.specs.declared.log.LogEntry.TheVariants.{Sent}
 use Rattle.far_base.specs.declared.packet.Packet.{Packet}
 use Rattle.far_base.specs.declared.party.Party.TheVariants.{Switch}
@@ -131,3 +132,8 @@ pub take_on : {A : Type 0} → (xs : List A) (i : ℕ) (x : A) → slice_get xs 
 take_on [] i x h = absurd cc
 take_on (y ∷ ys) zero x h = ap (λ z. z ∷ []) (same_Some _ _ h)
 take_on (y ∷ ys) (suc i) x h = let e : suc i + 1 ≡ suc (i + 1) = omega arith in rw e (ap (λ zs. y ∷ zs) (take_on ys i x h))
+
+-- a body that is there is its text
+pub text_is_body : (body : Option (List ℕ)) → is_some body ≡ true → Some (text_of body) ≡ body
+text_is_body None h = absurd cc
+text_is_body (Some text) h = refl

@@ -1,5 +1,5 @@
 use far_base::{Memory, Message, Out, Party};
-use packet_codec::{decode, encode};
+use packet_codec::decode;
 use std::alloc::Global;
 use std::marker::Model;
 
@@ -68,8 +68,7 @@ impl Bag {
         ensures messages { self.new.messages ≡ self.old.messages ++ messages_from from (out.now ∷ []) }
         ensures room { self.old.room ≤ self.new.room + 1 }
     {
-        let wire = encode(&out.packet);
-        self.wires.put(from, out.to, wire);
+        self.wires.put_packet(from, out.to, &out.packet);
     }
 
     /// The message at the place, read from its bytes.

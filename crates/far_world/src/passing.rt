@@ -3,22 +3,39 @@ ghost use Rattle.std.specs.Prelude.{option_to_list};
 ghost use Rattle.far_model.specs.Pass as model;
 ghost use Rattle.far_model.specs.Pass.{emitted_note, emitted_notes};
 ghost use Rattle.far_model.specs.Passes as counts;
-ghost use Rattle.far_world.specs.Passing.{numbered_by, place_of};
+ghost use Rattle.far_world.specs.Passing.{number_note, number_noted, numbered_by, place_of};
 
 use crate::turn::Turn;
 use far_base::{Body, LogEntry, Out, Packet};
 use switch_core::Switch;
 
+/// The number that a write of this operation got, where the packet that left for it has one.
+fn number_in(op: u32, packet: &Packet) -> Option<LogEntry>
+    ensures { option_to_list result ≡ number_note op packet.now }
+{
+    match packet {
+        Packet::WriteFwd { num, .. } => Some(LogEntry::Numbered { op, num: *num }),
+        Packet::WriteAns { num, .. } => Some(LogEntry::Numbered { op, num: *num }),
+        _ => None,
+    }
+}
+
 /// The number that a write got. It stands in the first packet that left.
+fn number_of(op: u32, first: &Option<Out>) -> Option<LogEntry>
+    ensures { option_to_list result ≡ number_noted op first.now }
+{
+    match first {
+        Some(out) => number_in(op, &out.packet),
+        None => None,
+    }
+}
+
+/// The number that the packet, where it is a write, got.
 fn numbered(packet: &Packet, first: &Option<Out>) -> Option<LogEntry>
     ensures { option_to_list result ≡ numbered_by packet.now first.now }
 {
-    match (*packet, *first) {
-        (Packet::WriteReq { op, .. }, Some(out)) => match out.packet {
-            Packet::WriteFwd { num, .. } => Some(LogEntry::Numbered { op, num }),
-            Packet::WriteAns { num, .. } => Some(LogEntry::Numbered { op, num }),
-            _ => None,
-        },
+    match packet {
+        Packet::WriteReq { op, .. } => number_of(*op, first),
         _ => None,
     }
 }
@@ -27,7 +44,7 @@ fn numbered(packet: &Packet, first: &Option<Out>) -> Option<LogEntry>
 fn answer(packet: &Packet) -> Option<LogEntry>
     ensures { option_to_list result ≡ emitted_note packet.now }
 {
-    match *packet {
+    match packet {
         Packet::GetAns {
             op,
             num,
@@ -35,16 +52,16 @@ fn answer(packet: &Packet) -> Option<LogEntry>
             near,
             ..
         } => Some(LogEntry::Emitted {
-            op,
-            num,
-            body,
-            near,
+            op: *op,
+            num: *num,
+            body: *body,
+            near: *near,
         }),
         Packet::WriteAns { op, num, kept, .. } => Some(LogEntry::Emitted {
-            op,
-            num,
+            op: *op,
+            num: *num,
             body: Body::absent(),
-            near: kept,
+            near: *kept,
         }),
         _ => None,
     }
@@ -104,6 +121,6 @@ pub(crate) fn pass_through<S: Switch>(switch: &mut S, packet: &Packet, turn: &mu
     let emit = switch.pass(packet);
     turn.send_if(&emit.first);
     turn.send_if(&emit.second);
-    turn.note_if(numbered(packet, &emit.first));
-    turn.note_if(emitted(&emit.first));
+    turn.note_if(&numbered(packet, &emit.first));
+    turn.note_if(&emitted(&emit.first));
 }

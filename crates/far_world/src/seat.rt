@@ -1,6 +1,6 @@
 use crate::turn::Turn;
 use client_records::Client;
-use far_base::{Config, LogEntry, Memory, OpLine, Packet, Party, Plan, Record};
+use far_base::{Body, Config, LogEntry, Memory, OpLine, Packet, Party, Plan, Record};
 use std::alloc::Global;
 use std::marker::Model;
 
@@ -57,6 +57,32 @@ fn script_of(alloc: Global, ops: &[OpLine], client: u32) -> Result<Vec<u32>, Mem
     Ok(script)
 }
 
+/// The same body. Of its place in memory only the bytes that it has are read.
+#[tactic(auto, using(crate::proofs::Scripts::text_is_body))]
+fn body_of(body: &Body) -> Body
+    ensures { result ≡ body.now }
+{
+    if !body.is_present() {
+        return Body::absent();
+    }
+    match Body::from_bytes(body.text()) {
+        Some(body) => body,
+        None => unreachable!(),
+    }
+}
+
+/// The same line of the plan: most of a long plan lies far away, and its bodies are short.
+fn short_copy(line: &OpLine) -> OpLine
+    ensures { result ≡ line.now }
+{
+    OpLine {
+        client: line.client,
+        op: line.op,
+        key: line.key,
+        body: body_of(&line.body),
+    }
+}
+
 impl Seat {
     /// A client that has sent nothing.
     pub(crate) fn new(alloc: Global, ops: &[OpLine], number: u32) -> Result<Self, Memory>
@@ -110,11 +136,11 @@ impl Seat {
         ensures err { OnErr result (self.new ≡ self.old) }
     {
         let op = self.script[self.next];
-        let line = &ops[op as usize - 1];
-        let packet = self.client.send(op, line)?;
+        let line = short_copy(&ops[op as usize - 1]);
+        let packet = self.client.send(op, &line)?;
         self.next += 1;
         turn.send(Party::Switch, packet);
-        turn.note(LogEntry::Sent { op, line: *line });
+        turn.note(LogEntry::Sent { op, line });
         Ok(())
     }
 

@@ -5,7 +5,7 @@ ghost use Rattle.far_model.specs.Pass.{outs_of};
 ghost use Rattle.far_world.specs.Steps.{Logs};
 
 use crate::bag::Bag;
-use far_base::{LogEntry, Memory, Out, Packet, Party, Record};
+use far_base::{LogEntry, Memory, Out, Packet, Party};
 use far_history::Log;
 use std::alloc::Global;
 
@@ -14,6 +14,15 @@ use std::alloc::Global;
 pub(crate) struct Turn {
     pub out: Vec<Out>,
     pub notes: Vec<LogEntry>,
+}
+
+/// Puts a copy of the item behind the others, for which there is room.
+fn put_last<T: Copy>(items: &mut Vec<T>, item: &T)
+    requires { vec_len items.old < vec_capacity items.old }
+    ensures items { items.new.items ≡ items.old.items ++ item.now ∷ [] }
+    ensures room { vec_capacity items.new ≡ vec_capacity items.old }
+{
+    items.push_reserved(*item);
 }
 
 impl Turn {
@@ -46,9 +55,7 @@ impl Turn {
         ensures notes { self.new.notes ≡ self.old.notes }
         ensures room { vec_capacity self.new.out ≡ vec_capacity self.old.out }
     {
-        let none: Option<Record> = None;
-        let _ = none;
-        self.out.push_reserved(Out { to, packet });
+        put_last(&mut self.out, &Out { to, packet });
     }
 
     /// Sends a packet where there is one, for which there is room.
@@ -59,19 +66,19 @@ impl Turn {
         ensures room { vec_capacity self.new.out ≡ vec_capacity self.old.out }
     {
         if let Some(out) = out {
-            self.send(out.to, out.packet);
+            put_last(&mut self.out, out);
         }
     }
 
     /// Notes what happened where there is something, for which there is room.
-    pub(crate) fn note_if(&mut self, entry: Option<LogEntry>)
+    pub(crate) fn note_if(&mut self, entry: &Option<LogEntry>)
         requires { vec_len self.old.notes < vec_capacity self.old.notes }
-        ensures notes { self.new.notes.items ≡ self.old.notes.items ++ option_to_list entry }
+        ensures notes { self.new.notes.items ≡ self.old.notes.items ++ option_to_list entry.now }
         ensures out { self.new.out ≡ self.old.out }
         ensures room { vec_capacity self.new.notes ≡ vec_capacity self.old.notes }
     {
         if let Some(entry) = entry {
-            self.note(entry);
+            put_last(&mut self.notes, entry);
         }
     }
 

@@ -18,11 +18,11 @@ fn packet(bytes: &[u8]) -> Result<Packet, BadPacket>
         return Err(BadPacket::Version);
     }
     let kind = reader.byte()?;
-    let packet = fields(kind, &mut reader)?;
-    if !reader.rest.is_empty() {
+    let read = fields(kind, &mut reader);
+    if read.is_ok() && !reader.rest.is_empty() {
         return Err(BadPacket::Rest);
     }
-    Ok(packet)
+    read
 }
 
 /// The packet that the bytes spell, all of the bytes. An `Err` is the first fault from left to

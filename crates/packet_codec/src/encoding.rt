@@ -259,3 +259,15 @@ pub fn encode(packet: &Packet) -> Wire
     put(&mut wire, packet);
     wire
 }
+
+/// Writes the one spelling of the packet in place of what the wire has.
+pub fn encode_into(wire: &mut Wire, packet: &Packet)
+    ensures spelled { Spells wire.new packet.now }
+    ensures only { (bytes : List ℕ) → Spells bytes packet.now → bytes ≡ wire.new }
+    // It is read again.
+    ensures again { packet_of wire.new ≡ Ok packet.now }
+    ensures short { length wire.new ≤ PACKET_LIMIT }
+{
+    wire.clear();
+    put(wire, packet);
+}

@@ -15,7 +15,7 @@ mod wire;
 mod writer;
 
 pub use decoding::decode;
-pub use encoding::encode;
+pub use encoding::{encode, encode_into};
 pub use far_base::{Out, Packet};
 pub use fault::BadPacket;
 pub use fields::{read_body, read_key, read_rec};

@@ -12,6 +12,8 @@ pub const WIRE_SIZE: usize = 64 + BODY_LIMIT;
 
 const _: () = prove!(PACKET_LIMIT == 301 && WIRE_SIZE == 320);
 
+const ZEROS: [u8; WIRE_SIZE] = [0; WIRE_SIZE];
+
 /// The bytes of a packet on its way, in an array with zeros behind them. Contracts see the list of
 /// the bytes.
 #[derive(Clone, Copy)]
@@ -38,13 +40,22 @@ impl Model for Wire {
     ghost inverse_ok = { λ a h. let e = wire_is a.len a.bytes h in Prim.rw (e.1, e.0) };
 }
 
-ghost use Rattle.std.specs.Prelude.{◌≡◌, ◌≤◌, ◌+◌, ◌++◌, ◌↔◌, [], length, take, drop, IfSome, IsSome};
+ghost use Rattle.std.specs.Prelude.{◌≡◌, ◌≤◌, ◌+◌, ◌++◌, ◌↔◌, [], length, take, drop, replicate, IfSome, IsSome};
 
 fn put_at(out: &mut [u8], at: usize, text: &[u8])
     requires { at + length text.now ≤ length out.old }
     ensures { out.new ≡ take at out.old ++ text.now ++ drop (at + length text.now) out.old }
 {
     out[at..at + text.len()].copy_from_slice(text);
+}
+
+/// Zeros in place of the first so many bytes.
+fn put_zeros(out: &mut [u8], len: usize)
+    requires len { len ≤ WIRE_SIZE }
+    requires within { len ≤ length out.old }
+    ensures { out.new ≡ replicate len 0 ++ drop len out.old }
+{
+    put_at(out, 0, &ZEROS[..len]);
 }
 
 impl Wire {
@@ -77,6 +88,15 @@ impl Wire {
         ensures short { length self.now ≤ WIRE_SIZE }
     {
         &self.bytes[..self.len as usize]
+    }
+
+    /// Takes all bytes away.
+    #[tactic(auto, using(crate::proofs::Padding::wiped))]
+    pub(crate) fn clear(&mut self)
+        ensures { self.new ≡ [] }
+    {
+        put_zeros(&mut self.bytes, self.len as usize);
+        self.len = 0;
     }
 
     /// Adds the text at the end.

@@ -1,5 +1,5 @@
-use far_base::{Memory, Party};
-use packet_codec::Wire;
+use far_base::{Memory, Packet, Party};
+use packet_codec::{Wire, encode_into};
 use std::alloc::Global;
 use std::marker::Model;
 
@@ -28,8 +28,10 @@ impl Model for Bag {
 }
 
 ghost use Rattle.std.specs.Prelude.{◌≡◌, ◌+◌, ◌-◌, ◌^◌, ◌<◌, ◌≤◌, ◌++◌, [], ◌∷◌, not};
-ghost use Rattle.std.specs.Prelude.{length, remove, slice_get, Some, OnOk, OnErr};
+ghost use Rattle.std.specs.Prelude.{length, remove, slice_get, Some, Ok, OnOk, OnErr};
 ghost use Rattle.std.specs.List.{list_all};
+ghost use Rattle.packet_codec.specs.Packets.{packet_of};
+ghost use Rattle.packet_codec.specs.Spelling.{Spells, spelled};
 ghost use Rattle.wire_bag.specs.BagView.{are_from_others, is_same};
 
 fn are_from_others(boxes: &[Box<Message>], who: Party) -> bool
@@ -83,6 +85,22 @@ impl Bag {
         ensures spare { self.old.spare ≤ self.new.spare + 1 }
     {
         *self.boxes[self.count as usize] = (from, to, wire);
+        self.count += 1;
+    }
+
+    /// Adds a message that says the packet, for which there is room: its bytes are the packet's one spelling.
+    pub fn put_packet(&mut self, from: Party, to: Party, packet: &Packet)
+        requires spare { 0 < self.old.spare }
+        requires few { length self.old.messages < 2 ^ 32 - 1 }
+        ensures messages { self.new.messages ≡ self.old.messages ++ (from, to, (spelled packet.now).bytes) ∷ [] }
+        ensures spare { self.old.spare ≤ self.new.spare + 1 }
+        ensures spelled { Spells (spelled packet.now).bytes packet.now }
+        ensures again { packet_of (spelled packet.now).bytes ≡ Ok packet.now }
+    {
+        let free = &mut *self.boxes[self.count as usize];
+        free.0 = from;
+        free.1 = to;
+        encode_into(&mut free.2, packet);
         self.count += 1;
     }
 

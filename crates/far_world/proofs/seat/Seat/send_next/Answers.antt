@@ -6,8 +6,8 @@ use Rattle.far_world.proofs.Scripts.{next_is, sends_next}
 use Rattle.client_records.specs.ClientView.{open_op}
 use Rattle.far_world.proofs.seat.Seat.send_next.Goals as goal
 
-pub overflow_sub-line : goal.overflow_sub-line
-overflow_sub-line c =
+pub overflow_sub-op : goal.overflow_sub-op
+overflow_sub-op c =
     let h = next_is c.args.ops.now c.self.inside.client.number c.self.inside.script.items c.self.inside.next c.requires.seated.sent c.index-op.result.now (not (is_some (open_op c.self.inside.client.waits)))
     c.index-op.ensures (rw (← c.self.view_is) at c.requires.can) (rw (← c.self.view_is) at c.requires.seated.left) in
     omega (arith, h.least)
@@ -21,6 +21,6 @@ bounds-ops-op c =
 pub returns-clause-ok : goal.returns-clause-ok
 returns-clause-ok c =
     subst (λ (self : SeatView). TakesTurn c.args.ops.now self c.args.turn.now (next_sent c.args.ops.now self.number self.state self.state.left) (seat_of c.send.new.self (c.self.inside.next + 1) c.self.inside.script.items) c.note.new.self) c.self.view_is
-    (sends_next c.args.ops.now c.self.inside.client c.send.new.self c.self.inside.script.items c.self.inside.next c.requires.seated.sent c.index-op.result.now c.index-ops-op.result c.in_ok-packet.packet c.args.turn.now c.note.new.self
-    c.index-op.ensures (rw (← c.self.view_is) at c.requires.can) (rw (← c.self.view_is) at c.requires.seated.left) c.index-ops-op.is
+    (sends_next c.args.ops.now c.self.inside.client c.send.new.self c.self.inside.script.items c.self.inside.next c.requires.seated.sent c.index-op.result.now c.short_copy-line.result c.in_ok-packet.packet c.args.turn.now c.note.new.self
+    c.index-op.ensures (rw (← c.self.view_is) at c.requires.can) (rw (← c.self.view_is) at c.requires.seated.left) (rw c.short_copy-line.ensures c.index-ops-op.is)
     c.in_ok-packet.ensures.waits c.in_ok-packet.ensures.packet (rw (c.note.ensures.out, c.send-2.ensures.out) refl) (rw (c.note.ensures.notes, c.send-2.ensures.notes) refl))
