@@ -2,13 +2,13 @@
 use Rattle.std.proofs.Common.{◌≡◌, ℕ, zero, suc, ◌+◌, ◌≤◌, true, List, [], ◌∷◌, ◌++◌, replicate, refl, sym, ap, ◌∙◌, Some, None, arith}
 use Rattle.std.proofs.lemmas.Option.{same_Some}
 use Rattle.std.specs.Option.{option_map}
-use Rattle.std.specs.Prelude.{Option, is_some, slice_get}
+use Rattle.std.specs.Prelude.{Option, is_some, slice_get, length, nat_eq, if◌then◌else◌}
 use Rattle.far_base.specs.PlanView.{PlanView}
 use Rattle.far_base.specs.declared.packet.Message.{Message}
 use Rattle.far_base.specs.declared.plan.OpLine.{OpLine}
 use Rattle.far_base.specs.declared.record.Record.{Record}
 use Rattle.far_history.specs.RoomyLog.{RoomyLog}
-use Rattle.far_model.specs.Clients.{ClientState}
+use Rattle.far_model.specs.Clients.{ClientState, script_from}
 use Rattle.far_model.specs.Controller.{opening_controller}
 use Rattle.far_model.specs.Passes.{no_passes}
 use Rattle.far_model.specs.State.{clients_from, opening}
@@ -16,7 +16,7 @@ use Rattle.far_model.specs.View.{SwitchView, opening_view}
 use Rattle.controller_core.specs.ControllerView.{ControllerView}
 use Rattle.far_world.specs.Ready.{IsOpened}
 use Rattle.far_world.specs.Scene.{KeeperView, scene_of, told_by}
-use Rattle.far_world.specs.Seats.{AreSeated, IsSeated, SeatView, clients_of, opening_seat, opening_seats}
+use Rattle.far_world.specs.Seats.{AreSeated, IsSeated, SeatView, clients_of, fresh_seat, numbers_from, opening_seat, opening_seats, senders}
 
 pub opening_clients_are : (ops : List OpLine) (n k : ℕ) → clients_of (opening_seats ops n k) ≡ clients_from ops n k
 opening_clients_are ops n zero = refl
@@ -39,6 +39,18 @@ seats_append ops n (suc k) = let e : n + suc k ≡ suc n + k = omega arith in le
 
 pub seats_more : (ops : List OpLine) (k : ℕ) → opening_seats ops 0 (k + 1) ≡ opening_seats ops 0 k ++ opening_seat ops k ∷ []
 seats_more ops k = let e : 0 + k ≡ k = omega arith in seats_append ops 0 k ∙ ap (λ (n : ℕ). opening_seats ops 0 k ++ opening_seat ops n ∷ []) e
+
+numbers_are : (op client : ℕ) (ops : List OpLine) → numbers_from op (senders ops) client ≡ script_from op ops client
+numbers_are op client [] = refl
+numbers_are op client (line ∷ ops) = ap (λ (rest : List ℕ). if nat_eq line.client client then op ∷ rest else rest) (numbers_are (suc op) client ops)
+
+-- a client of the plan's operations, told by who sends each
+pub fresh_is_opening : (ops : List OpLine) (number : ℕ) → fresh_seat number (numbers_from 1 (senders ops) number) ≡ opening_seat ops number
+fresh_is_opening ops number = ap (λ (left : List ℕ). fresh_seat number left) (numbers_are 1 number ops)
+
+pub senders_count : (ops : List OpLine) → length (senders ops) ≡ length ops
+senders_count [] = refl
+senders_count (line ∷ ops) = ap suc (senders_count ops)
 
 fresh : (count : ℕ) (o : Option (List (List Record))) → told_by count (option_map (λ all. replicate count []) o) ≡ replicate count []
 fresh count None = refl

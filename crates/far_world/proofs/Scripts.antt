@@ -14,7 +14,7 @@ use Rattle.std.proofs.lemmas.Option.{same_Some}
 use Rattle.far_base.specs.declared.record.Record.{Record}
 use Rattle.far_world.proofs.Lists.{get_or_any}
 use Rattle.client_records.specs.ClientView.{ClientView, open_op, state_of}
-use Rattle.far_world.specs.Seats.{TakesTurn, seat_of}
+use Rattle.far_world.specs.Seats.{TakesTurn, numbers_from, seat_of, senders}
 use Rattle.far_world.specs.declared.turn.Turn.{Turn as TurnParts}
 
 has_next_drop : (i : ℕ) (xs : List ℕ) → nat_lt i (length xs) ≡ has_next (drop i xs)
@@ -34,10 +34,14 @@ pub is_done_is : (waits : Option (ℕ × OpLine)) (i : ℕ) (xs : List ℕ) → 
 is_done_is None i xs h = not_less i (length xs) ∙ ap not (has_next_drop i xs)
 is_done_is (Some w) i xs h = absurd cc
 
--- the script from a line on
-pub script_more : (i client : ℕ) (ops : List OpLine) (d : OpLine) → i < length ops
-    → script_from (suc i) (drop i ops) client ≡ (if nat_eq (get_or ops i d).client client then suc i ∷ script_from (suc (suc i)) (drop (suc i) ops) client else script_from (suc (suc i)) (drop (suc i) ops) client)
-script_more i client ops d h = rw (drop-cons ops i d h) refl
+-- the senders from a line on
+pub senders_more : (i : ℕ) (ops : List OpLine) (d : OpLine) → i < length ops → senders (drop i ops) ≡ (get_or ops i d).client ∷ senders (drop (suc i) ops)
+senders_more i ops d h = rw (drop-cons ops i d h) refl
+
+-- the numbers from a sender on
+pub numbers_more : (i client : ℕ) (senders : List ℕ) (d : ℕ) → i < length senders
+    → numbers_from (suc i) (drop i senders) client ≡ (if nat_eq (get_or senders i d) client then suc i ∷ numbers_from (suc (suc i)) (drop (suc i) senders) client else numbers_from (suc (suc i)) (drop (suc i) senders) client)
+numbers_more i client senders d h = rw (drop-cons senders i d h) refl
 
 clients_from_more : (ops : List OpLine) (a n : ℕ) → clients_from ops a (n + 1) ≡ clients_from ops a n ++ opening_client ops (a + n) ∷ []
 clients_from_more ops a zero = let e : a + 0 ≡ a = omega arith in rw e refl

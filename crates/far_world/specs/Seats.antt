@@ -1,5 +1,5 @@
 -- A client and the operations that it has still to send, as contracts see them.
-use Rattle.std.specs.Prelude.{◌≡◌, ℕ, zero, suc, List, [], ◌∷◌, ◌++◌, map, drop, slice_get, Option, None, Some}
+use Rattle.std.specs.Prelude.{◌≡◌, ℕ, zero, suc, List, [], ◌∷◌, ◌++◌, map, drop, slice_get, Option, None, Some, nat_eq, if◌then◌else◌}
 use Rattle.far_base.specs.declared.plan.OpLine.{OpLine}
 use Rattle.far_base.specs.declared.packet.Packet.{Packet}
 use Rattle.far_base.specs.declared.packet.Packet.TheVariants.{GetAns, WriteAns}
@@ -57,6 +57,24 @@ abbrev pub IsAnswerOf : Option ℕ → Packet → Type 0
 IsAnswerOf waits (GetAns caller op key num body near) = waits ≡ Some op
 IsAnswerOf waits (WriteAns caller op key num kept) = waits ≡ Some op
 IsAnswerOf waits _ = ⊥
+
+-- who sends each operation
+abbrev pub senders : List OpLine → List ℕ
+senders ops = map (λ (line : OpLine). line.client) ops
+
+-- the numbers of the operations that a client sends, where these clients send them and the first has this number
+abbrev pub numbers_from : ℕ → List ℕ → ℕ → List ℕ
+numbers_from op [] client = []
+numbers_from op (sender ∷ rest) client = if nat_eq sender client then op ∷ numbers_from (suc op) rest client
+    else numbers_from (suc op) rest client
+
+-- a client that has these operations to send
+abbrev pub fresh_seat : ℕ → List ℕ → SeatView
+fresh_seat number left = record {
+  number = number;
+  line = None;
+  state = record { waits = None; left = left; released = 0; preserved = [] };
+}
 
 -- a client that has sent nothing
 abbrev pub opening_seat : List OpLine → ℕ → SeatView

@@ -10,7 +10,7 @@ ghost use Rattle.far_world.specs.Seats.{opening_seats};
 
 use crate::bag::Bag;
 use crate::parties::Parties;
-use crate::seat::{Seat, config_of, ops_of};
+use crate::seat::{Seat, config_of, ops_of, senders_of};
 use crate::turn::Turn;
 use crate::world::Halted;
 use controller_core::Controller;
@@ -22,15 +22,15 @@ use std::alloc::Global;
 use switch_core::Switch;
 
 /// Clients that have sent nothing.
-#[tactic(auto, using(crate::proofs::Opened::seats_more))]
+#[tactic(auto, using(crate::proofs::Opened::seats_more, crate::proofs::Opened::fresh_is_opening, crate::proofs::Opened::senders_count))]
 fn opening_clients(alloc: Global, plan: &Plan) -> Result<Vec<Seat>, Memory>
     requires { length plan.now.ops ≤ OP_LIMIT }
     ensures { IfOk result (λ seats. seats.items ≡ opening_seats plan.now.ops 0 plan.now.config.clients) }
 {
-    let ops = ops_of(plan);
+    let senders = senders_of(alloc, ops_of(plan))?;
     let mut seats = Vec::new(alloc);
     for number in 0..config_of(plan).clients {
-        let seat = Seat::new(alloc, ops, number)?;
+        let seat = Seat::new(alloc, &senders, number)?;
         seats.push(seat).map_err(|_| Memory)?;
     }
     Ok(seats)

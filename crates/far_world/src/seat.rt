@@ -26,7 +26,7 @@ ghost use Rattle.far_base.specs.declared.plan.TheConstants.{OP_LIMIT};
 ghost use Rattle.far_model.specs.Clients as model;
 ghost use Rattle.far_model.specs.Events as events;
 ghost use Rattle.far_model.specs.Runs as runs;
-ghost use Rattle.far_world.specs.Seats.{IsAnswerOf, IsExpected, IsSeated, TakesTurn, opening_seat};
+ghost use Rattle.far_world.specs.Seats.{IsAnswerOf, IsExpected, IsSeated, TakesTurn, fresh_seat, numbers_from, senders};
 ghost use Rattle.far_base.specs.declared.plan.OpLine.{OpLine};
 
 /// The operations of a plan.
@@ -43,14 +43,27 @@ pub(crate) fn config_of(plan: &Plan) -> Config
     plan.config
 }
 
+/// Who sends each operation.
+#[tactic(auto, using(crate::proofs::Scripts::senders_more))]
+pub(crate) fn senders_of(alloc: Global, ops: &[OpLine]) -> Result<Vec<u32>, Memory>
+    ensures { IfOk result (λ all. all.items ≡ senders ops.now) }
+{
+    let mut all = Vec::new(alloc);
+    for line in ops {
+        all.push(line.client).map_err(|_| Memory)?;
+    }
+    Ok(all)
+}
+
 /// The numbers of the client's operations, in order. Operations are numbered from 1.
-fn script_of(alloc: Global, ops: &[OpLine], client: u32) -> Result<Vec<u32>, Memory>
-    requires { length ops.now ≤ OP_LIMIT }
-    ensures { IfOk result (λ script. script.items ≡ model.script ops.now client) }
+#[tactic(auto, using(crate::proofs::Scripts::numbers_more))]
+fn script_of(alloc: Global, senders: &[u32], client: u32) -> Result<Vec<u32>, Memory>
+    requires { length senders.now ≤ OP_LIMIT }
+    ensures { IfOk result (λ script. script.items ≡ numbers_from 1 senders.now client) }
 {
     let mut script = Vec::new(alloc);
-    for i in 0..ops.len() {
-        if ops[i].client == client {
+    for i in 0..senders.len() {
+        if senders[i] == client {
             script.push(i as u32 + 1).map_err(|_| Memory)?;
         }
     }
@@ -84,14 +97,14 @@ fn short_copy(line: &OpLine) -> OpLine
 }
 
 impl Seat {
-    /// A client that has sent nothing.
-    pub(crate) fn new(alloc: Global, ops: &[OpLine], number: u32) -> Result<Self, Memory>
-        requires { length ops.now ≤ OP_LIMIT }
-        ensures { IfOk result (λ seat. seat ≡ opening_seat ops.now number) }
+    /// A client that has sent nothing, of the operations that these clients send.
+    pub(crate) fn new(alloc: Global, senders: &[u32], number: u32) -> Result<Self, Memory>
+        requires { length senders.now ≤ OP_LIMIT }
+        ensures { IfOk result (λ seat. seat ≡ fresh_seat number (numbers_from 1 senders.now number)) }
     {
         Ok(Seat {
             client: Client::new(alloc, number),
-            script: script_of(alloc, ops, number)?,
+            script: script_of(alloc, senders, number)?,
             next: 0,
         })
     }
