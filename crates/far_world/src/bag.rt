@@ -68,7 +68,7 @@ impl Bag {
         ensures messages { self.new.messages ≡ self.old.messages ++ messages_from from (out.now ∷ []) }
         ensures room { self.old.room ≤ self.new.room + 1 }
     {
-        self.wires.put_packet(from, out.to, &out.packet);
+        self.wires.put(from, out.to, &out.packet);
     }
 
     /// The message at the place, read from its bytes.

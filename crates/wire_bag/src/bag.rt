@@ -77,19 +77,8 @@ impl Bag {
         Ok(())
     }
 
-    /// Adds a message, for which there is room.
-    pub fn put(&mut self, from: Party, to: Party, wire: Wire)
-        requires spare { 0 < self.old.spare }
-        requires few { length self.old.messages < 2 ^ 32 - 1 }
-        ensures messages { self.new.messages ≡ self.old.messages ++ (from, to, wire) ∷ [] }
-        ensures spare { self.old.spare ≤ self.new.spare + 1 }
-    {
-        *self.boxes[self.count as usize] = (from, to, wire);
-        self.count += 1;
-    }
-
     /// Adds a message that says the packet, for which there is room: its bytes are the packet's one spelling.
-    pub fn put_packet(&mut self, from: Party, to: Party, packet: &Packet)
+    pub fn put(&mut self, from: Party, to: Party, packet: &Packet)
         requires spare { 0 < self.old.spare }
         requires few { length self.old.messages < 2 ^ 32 - 1 }
         ensures messages { self.new.messages ≡ self.old.messages ++ (from, to, (spelled packet.now).bytes) ∷ [] }

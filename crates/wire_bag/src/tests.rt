@@ -1,22 +1,24 @@
 use super::*;
 use far_base::{Key, Packet, Party};
-use packet_codec::encode;
+use packet_codec::decode;
 use std::test::Fail;
 
 #[test]
 fn messages_keep_their_order(rt: HostRuntime) -> Result<(), Fail> {
     let key = Key::from_text(b"a").ok_or("no key")?;
-    let wire = encode(&Packet::Hot { key });
+    let hot = Packet::Hot { key };
     let mut bag = Bag::new(rt.alloc());
     bag.reserve(3).map_err(|_| "no memory")?;
     assert_eq!(rt; bag.count(), 0);
-    bag.put(Party::Client(1), Party::Switch, wire);
+    bag.put(Party::Client(1), Party::Switch, &hot);
     bag.reserve(2).map_err(|_| "no memory")?;
-    bag.put(Party::Switch, Party::Server(0), wire);
+    bag.put(Party::Switch, Party::Server(0), &hot);
     assert_eq!(rt; bag.count(), 2);
     assert!(rt; !bag.none_from(Party::Switch));
     assert_eq!(rt; bag.get(1).1, Party::Server(0));
-    assert_eq!(rt; bag.take(0).0, Party::Client(1));
+    let (from, _, wire) = bag.take(0);
+    assert_eq!(rt; from, Party::Client(1));
+    assert!(rt; decode(wire.bytes()) == Ok(hot));
     assert_eq!(rt; bag.take(0).0, Party::Switch);
     assert!(rt; bag.none_from(Party::Switch));
     Ok(())
