@@ -1,6 +1,7 @@
 ghost use Rattle.std.specs.Prelude.{◌≡◌, ◌<◌, ◌≤◌, length, IfSome, IsTrue};
 ghost use Rattle.std.specs.List.{list_any};
 ghost use Rattle.far_model.specs.Evictions as model;
+ghost use Rattle.admission.specs.AdmissionView.{free_in};
 
 use crate::keys::is_same;
 use far_base::{Key, SlotState};
@@ -9,6 +10,14 @@ fn is_free(state: &SlotState) -> bool
     ensures { result ≡ model.is_free state.now }
 {
     matches!(state, SlotState::Free)
+}
+
+/// 1 where the slot is free, and else 0.
+pub(crate) fn count_free(state: &SlotState) -> usize
+    ensures count { result ≡ free_in state.now }
+    ensures bound { result ≤ 1 }
+{
+    if is_free(state) { 1 } else { 0 }
 }
 
 fn is_held(state: &SlotState) -> bool
