@@ -1,1 +1,3 @@
 pub mod Found
+mod Free
+mod Fronts

@@ -1,8 +1,9 @@
 -- The states of the slots, and what each call makes of them.
-use Rattle.std.specs.Prelude.{ℕ, ◌+◌, Bool, true, false, if◌then◌else◌, List, length, replicate, slice_set, Option, None, Some}
+use Rattle.std.specs.Prelude.{ℕ, ◌+◌, Bool, true, false, if◌then◌else◌, List, [], ◌∷◌, length, replicate}
+use Rattle.std.specs.Prelude.{slice_set, Option, None, Some}
 use Rattle.far_base.specs.declared.slot_state.SlotState.{SlotState}
 use Rattle.far_base.specs.declared.slot_state.SlotState.TheVariants.{Free, Admitting, Held, Evicting}
-use Rattle.far_model.specs.Evictions.{state_at, key_in, tag_in, is_admitting, hand_after}
+use Rattle.far_model.specs.Evictions.{is_free, state_at, key_in, tag_in, is_admitting, hand_after}
 
 pub record AdmissionView : Type 0 where
   pub slots : List SlotState
@@ -12,6 +13,15 @@ pub record AdmissionView : Type 0 where
 abbrev pub is_evicting : SlotState → Bool
 is_evicting (Evicting key tag) = true
 is_evicting _ = false
+
+-- 1 where the slot is free, and else 0
+abbrev pub free_in : SlotState → ℕ
+free_in state = if is_free state then 1 else 0
+
+-- how many slots are free
+abbrev pub free_count : List SlotState → ℕ
+free_count [] = 0
+free_count (state ∷ slots) = free_in state + free_count slots
 
 abbrev pub with_slot : AdmissionView → ℕ → SlotState → AdmissionView
 with_slot a i state = record a { slots = slice_set a.slots i state }

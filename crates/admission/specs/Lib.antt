@@ -1,1 +1,2 @@
 pub mod AdmissionView
+pub mod Fronts

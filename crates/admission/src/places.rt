@@ -1,13 +1,23 @@
 ghost use Rattle.std.specs.Prelude.{◌≡◌, ◌<◌, ◌≤◌, length, IfSome, IsTrue};
 ghost use Rattle.std.specs.List.{list_any};
 ghost use Rattle.far_model.specs.Evictions as model;
+ghost use Rattle.admission.specs.AdmissionView.{free_in};
 
+use crate::keys::is_same;
 use far_base::{Key, SlotState};
 
 fn is_free(state: &SlotState) -> bool
     ensures { result ≡ model.is_free state.now }
 {
     matches!(state, SlotState::Free)
+}
+
+/// 1 where the slot is free, and else 0.
+pub(crate) fn count_free(state: &SlotState) -> usize
+    ensures count { result ≡ free_in state.now }
+    ensures bound { result ≤ 1 }
+{
+    if is_free(state) { 1 } else { 0 }
 }
 
 fn is_held(state: &SlotState) -> bool
@@ -22,9 +32,9 @@ fn has_key(state: &SlotState, key: &Key) -> bool
 {
     match state {
         SlotState::Free => false,
-        SlotState::Admitting { key: other, .. } => other == key,
-        SlotState::Held { key: other, .. } => other == key,
-        SlotState::Evicting { key: other, .. } => other == key,
+        SlotState::Admitting { key: other, .. } => is_same(other, key),
+        SlotState::Held { key: other, .. } => is_same(other, key),
+        SlotState::Evicting { key: other, .. } => is_same(other, key),
     }
 }
 
@@ -33,7 +43,7 @@ fn holds_key(state: &SlotState, key: &Key) -> bool
     ensures { result ≡ model.holds_key key.now state.now }
 {
     match state {
-        SlotState::Held { key: other, .. } => other == key,
+        SlotState::Held { key: other, .. } => is_same(other, key),
         _ => false,
     }
 }

@@ -1,4 +1,6 @@
-use crate::places::{any_held, first_free, first_that_holds, first_with_key, next_held};
+use crate::places::{
+    any_held, count_free, first_free, first_that_holds, first_with_key, next_held,
+};
 use far_base::{Key, Memory, SlotState};
 use std::alloc::{AllocError, Global};
 use std::marker::Model;
@@ -8,19 +10,22 @@ use std::marker::Model;
 #[derive(Drop)]
 pub struct Admission {
     slots: Vec<SlotState>,
+    /// The number of free slots.
+    free: usize,
     next_tag: u64,
     hand: usize,
 }
 
 impl Model for Admission {
-    ghost use Rattle.std.specs.Prelude.{◌≤◌, ◌<◌, ◌^◌, length};
-    ghost use Rattle.admission.specs.AdmissionView.{AdmissionView};
+    ghost use Rattle.std.specs.Prelude.{◌≡◌, ◌≤◌, ◌<◌, ◌^◌, length};
+    ghost use Rattle.admission.specs.AdmissionView.{AdmissionView, free_count};
 
     ghost Value = { AdmissionView };
 
     ghost view = { λ a. record { slots = a.slots.items; next_tag = a.next_tag; hand = a.hand } };
 
-    ghost invariant = { λ a. (length a.slots.items < 2 ^ 32) × (a.hand ≤ length a.slots.items) };
+    ghost invariant = { λ a. (length a.slots.items < 2 ^ 32) × ((a.hand ≤ length a.slots.items)
+        × (a.free ≡ free_count a.slots.items)) };
 }
 
 ghost use Rattle.std.specs.Prelude.{◌≡◌, ◌<◌, ◌≤◌, ◌+◌, ◌^◌, length, replicate, None, IsTrue, IfOk, IfSome, is_some, not};
@@ -47,9 +52,19 @@ impl Admission {
     {
         Ok(Admission {
             slots: free_slots(alloc, slots)?,
+            free: slots as usize,
             next_tag: 1,
             hand: 0,
         })
+    }
+
+    /// The slot is in that state.
+    fn set(&mut self, slot: usize, state: SlotState)
+        requires { slot < length self.old.slots }
+        ensures { self.new ≡ with_slot self.old slot state }
+    {
+        self.free = self.free + count_free(&state) - count_free(&self.slots[slot]);
+        self.slots[slot] = state;
     }
 
     /// The number of slots.
@@ -68,9 +83,12 @@ impl Admission {
         ensures admitted { IfSome result (λ pair. self.new ≡ admitted self.old key pair.0) }
         ensures none { result ≡ None → self.new ≡ self.old }
     {
+        if !self.has_free() {
+            return None;
+        }
         let slot = first_free(&self.slots)?;
         let tag = self.next_tag;
-        self.slots[slot] = SlotState::Admitting { key, tag };
+        self.set(slot, SlotState::Admitting { key, tag });
         self.next_tag += 1;
         Some((slot as u32, tag))
     }
@@ -85,7 +103,7 @@ impl Admission {
         let at = slot as usize;
         match self.slots.get(at).copied()? {
             SlotState::Admitting { key, tag: own } if own == tag => {
-                self.slots[at] = SlotState::Held { key, tag };
+                self.set(at, SlotState::Held { key, tag });
                 Some(key)
             }
             _ => None,
@@ -119,7 +137,7 @@ impl Admission {
     pub fn has_free(&self) -> bool
         ensures { result ≡ is_some (model.first_place model.is_free self.now.slots) }
     {
-        first_free(&self.slots).is_some()
+        self.free != 0
     }
 
     /// Whether a slot is held.
@@ -152,7 +170,7 @@ impl Admission {
         ensures { self.new ≡ evicting_slot self.old slot }
     {
         if let SlotState::Held { key, tag } = self.slots[slot as usize] {
-            self.slots[slot as usize] = SlotState::Evicting { key, tag };
+            self.set(slot as usize, SlotState::Evicting { key, tag });
         }
     }
 
@@ -161,7 +179,7 @@ impl Admission {
         requires { IsTrue (is_evicting (model.state_at self.old.slots slot)) }
         ensures { self.new ≡ with_slot self.old slot Free }
     {
-        self.slots[slot as usize] = SlotState::Free;
+        self.set(slot as usize, SlotState::Free);
     }
 
     /// An evicting slot becomes held, with the key and the tag that it has.
@@ -170,7 +188,7 @@ impl Admission {
         ensures { self.new ≡ acked_slot self.old slot }
     {
         if let SlotState::Evicting { key, tag } = self.slots[slot as usize] {
-            self.slots[slot as usize] = SlotState::Held { key, tag };
+            self.set(slot as usize, SlotState::Held { key, tag });
         }
     }
 
@@ -179,6 +197,7 @@ impl Admission {
         ensures { self.new ≡ emptied self.old }
     {
         self.slots.fill(SlotState::Free);
+        self.free = self.slots.len();
         self.hand = 0;
     }
 }

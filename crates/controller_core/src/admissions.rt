@@ -4,6 +4,7 @@ ghost use Rattle.far_model.specs.Evictions as slots;
 ghost use Rattle.controller_core.specs.ControllerView.{at_state};
 ghost use Rattle.controller_core.specs.Notes.{notes_of};
 ghost use Rattle.controller_core.specs.Room.{HasRoom};
+ghost use Rattle.controller_core.specs.Staying.{leaves_first_want as leaves};
 ghost use Rattle.controller_core.specs.Wants.{first_want};
 
 use crate::controller::Controller;
@@ -34,6 +35,28 @@ impl Controller {
             && (self.admission.has_free()
                 || self.can_make_room()
                 || self.admission.holds(&key).is_some())
+    }
+
+    /// Whether the packet, once it is taken, leaves `tick_ready` as it is, since it changes nothing that the first want
+    /// waits for.
+    #[tactic(auto, using(crate::proofs::Staying::first_want_stays))]
+    pub fn leaves_first_want(&self, packet: &Packet) -> bool
+        ensures kinds { result ≡ leaves self.now.state packet.now }
+        ensures stays { IsTrue result → is_some (model.tick (model.controller_takes self.now.config self.now.state
+            packet.now).state) ≡ is_some (model.tick self.now.state) }
+    {
+        match packet {
+            Packet::Hot { .. } => self.has_round() || self.has_want(),
+            Packet::AdmitAck { .. } => self.busy_evicting(),
+            Packet::PeekAns { .. }
+            | Packet::SnapBegun { .. }
+            | Packet::SnapPart { .. }
+            | Packet::SnapSame { .. }
+            | Packet::Stored { .. }
+            | Packet::Told { .. }
+            | Packet::TopIs { .. } => true,
+            _ => false,
+        }
     }
 
     /// Serves the first want, which `tick_ready` said can be: it is dropped where a slot has its key; else the lowest

@@ -3,7 +3,7 @@ use crate::listing::{list_all, note_recovered};
 use crate::passing::{count_pass, pass_through};
 use crate::seat::{Seat, config_of, ops_of};
 use crate::serving::recipient;
-use crate::tasks::{Task, do_task};
+use crate::tasks::{Task, do_task, leaves_first_want};
 use crate::turn::{Turn, make_room, post};
 use controller_core::Controller;
 use far_base::{LogEntry, Memory, Packet, Party, Plan};
@@ -179,8 +179,13 @@ impl<S: Switch + Drop, K: Keeper + Drop> Parties<S, K> {
             most_out,
             most_notes,
         )?;
+        let stays = leaves_first_want(&self.controller, task);
         do_task(&mut self.controller, task, &mut self.turn)?;
-        self.can_tick = self.controller.tick_ready();
+        self.can_tick = if stays {
+            self.can_tick
+        } else {
+            self.controller.tick_ready()
+        };
         post(&mut self.bag, &mut self.log, Party::Controller, &self.turn);
         Ok(())
     }

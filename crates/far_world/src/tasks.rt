@@ -21,6 +21,8 @@ pub(crate) enum Task {
 }
 
 ghost use Rattle.std.specs.Prelude.{◌≡◌, ◌+◌, ◌^◌, ◌<◌, ◌≤◌, ◌++◌, [], ◌∷◌, length, vec_len, vec_capacity, OnOk, OnErr};
+ghost use Rattle.std.specs.Prelude.{IsTrue, is_some};
+ghost use Rattle.far_model.specs.Controller.{tick};
 ghost use Rattle.far_model.specs.Snapshots.{view_items, view_records};
 ghost use Rattle.controller_core.specs.ControllerView.{at_state};
 ghost use Rattle.controller_core.specs.Room.{HasRoom};
@@ -95,6 +97,17 @@ fn note_done(note: Note, last: &Snapshot, turn: &mut Turn)
         Note::Evicted { slot, key, tries } => turn.note(LogEntry::Evicted { slot, key, tries }),
         Note::Kept { slot, key, num } => turn.note(LogEntry::Kept { slot, key, num }),
         Note::Completed { same } => note_snapshot(same, last, turn),
+    }
+}
+
+/// Whether the task leaves it as it is whether the first want can be served.
+pub(crate) fn leaves_first_want(controller: &Controller, task: &Task) -> bool
+    ensures { IsTrue result → is_some (tick (task_turn controller.now.config controller.now.state task.now).state) ≡
+        is_some (tick controller.now.state) }
+{
+    match task {
+        Task::Take(packet) => controller.leaves_first_want(packet),
+        _ => false,
     }
 }
 

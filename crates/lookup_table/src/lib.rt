@@ -2,6 +2,7 @@
 #![tactic(auto)]
 
 mod cells;
+mod keys;
 mod lookup;
 mod place;
 
