@@ -7,6 +7,14 @@ mod calls;
 #[cfg(test)]
 mod commands;
 #[cfg(test)]
+mod failing;
+#[cfg(test)]
 mod rows;
 #[cfg(test)]
+mod seen;
+#[cfg(test)]
+mod stops;
+#[cfg(test)]
 mod tests;
+#[cfg(test)]
+mod worlds;
