@@ -9,7 +9,11 @@ mod commands;
 #[cfg(test)]
 mod failing;
 #[cfg(test)]
+mod replays;
+#[cfg(test)]
 mod rows;
+#[cfg(test)]
+mod runs;
 #[cfg(test)]
 mod seen;
 #[cfg(test)]
