@@ -2,6 +2,8 @@
 #![tactic(auto)]
 
 mod help;
+#[cfg(test)]
+mod tables;
 
 use crate::help::help_text;
 use far_outside::{Keeper, NoGate, Sink, SinkFault, StdSink, StdSource};
