@@ -206,7 +206,7 @@ two_stops = record {
   };
 }
 
--- after a stop the next snapshot is not by difference
+-- after a stop the next snapshot is not by difference, and the one after it is; the second round has the next number
 abbrev pub stop_between_snapshots : Example
 stop_between_snapshots = record {
   plan = record {
@@ -216,25 +216,32 @@ stop_between_snapshots = record {
         snap 0
         ∷ stop 6
         ∷ snap 7
+        ∷ snap 19
+        ∷ stop 25
         ∷ [];
   };
   picks = [];
   table = record {
-    steps = 19;
+    steps = 32;
     history = [];
     control =
         at 5 (Snapped 1 0 0 0)
         ∷ at 7 Stopped
         ∷ at 13 (Recovered 0 0)
         ∷ at 18 (Snapped 2 0 0 0)
+        ∷ at 24 (Snapped 3 0 0 1)
+        ∷ at 26 Stopped
+        ∷ at 32 (Recovered 0 0)
         ∷ [];
     map = [];
   };
   course = record {
-    bound = 512;
-    left = 21 ∷ 20 ∷ 19 ∷ 18 ∷ 17 ∷ 16 ∷ 15 ∷ 14 ∷ 11 ∷ 10 ∷ 9 ∷ 8 ∷ 7 ∷ 6 ∷ 5 ∷ 4 ∷ 3 ∷ 2 ∷ 1 ∷ 0 ∷ [];
-    enabled = 1 ∷ 1 ∷ 1 ∷ 1 ∷ 1 ∷ 1 ∷ 1 ∷ 1 ∷ 1 ∷ 1 ∷ 1 ∷ 1 ∷ 1 ∷ 1 ∷ 1 ∷ 1 ∷ 1 ∷ 1 ∷ 1 ∷ 0 ∷ [];
-    finished = 19 ∷ [];
+    bound = 768;
+    left = 36 ∷ 35 ∷ 34 ∷ 33 ∷ 32 ∷ 31 ∷ 30 ∷ 29 ∷ 26 ∷ 25 ∷ 24 ∷ 23 ∷ 22 ∷ 21 ∷ 20 ∷ 19 ∷ 18 ∷ 17 ∷ 16 ∷ 15 ∷ 14 ∷ 13
+        ∷ 12 ∷ 11 ∷ 10 ∷ 9 ∷ 8 ∷ 5 ∷ 4 ∷ 3 ∷ 2 ∷ 1 ∷ 0 ∷ [];
+    enabled = 1 ∷ 1 ∷ 1 ∷ 1 ∷ 1 ∷ 1 ∷ 1 ∷ 1 ∷ 1 ∷ 1 ∷ 1 ∷ 1 ∷ 1 ∷ 1 ∷ 1 ∷ 1 ∷ 1 ∷ 1 ∷ 1 ∷ 1 ∷ 1 ∷ 1 ∷ 1 ∷ 1 ∷ 1 ∷ 1
+        ∷ 1 ∷ 1 ∷ 1 ∷ 1 ∷ 1 ∷ 1 ∷ 0 ∷ [];
+    finished = 32 ∷ [];
     miscounted = [];
     servers = [] ∷ [];
   };

@@ -119,12 +119,13 @@ stop_in_snapshot_traffic = record {
       ∷ [];
 }
 
--- after a stop the next snapshot is not by difference
+-- after a stop the next snapshot is not by difference, and the one after it is; the second round has the next number
 abbrev pub stop_between_snapshots_traffic : Traffic
 stop_between_snapshots_traffic = record {
   events = OrderOf 0 ∷ Deliver 0 ∷ Deliver 0 ∷ Deliver 0 ∷ Deliver 0 ∷ Deliver 0 ∷ OrderOf 1 ∷ Recover ∷ Deliver 0
       ∷ Deliver 0 ∷ Deliver 0 ∷ Deliver 0 ∷ Restart ∷ OrderOf 2 ∷ Deliver 0 ∷ Deliver 0 ∷ Deliver 0 ∷ Deliver 0
-      ∷ Deliver 0 ∷ [];
+      ∷ Deliver 0 ∷ OrderOf 3 ∷ Deliver 0 ∷ Deliver 0 ∷ Deliver 0 ∷ Deliver 0 ∷ Deliver 0 ∷ OrderOf 4
+      ∷ Recover ∷ Deliver 0 ∷ Deliver 0 ∷ Deliver 0 ∷ Deliver 0 ∷ Restart ∷ [];
   taken =
       message Controller Switch (SnapStart 1 1)
       ∷ message Switch Controller (SnapBegun 1 0)
@@ -140,12 +141,24 @@ stop_between_snapshots_traffic = record {
       ∷ message Controller Switch (SnapRead 2 2 0)
       ∷ message Switch Controller (SnapPart 2 0 None)
       ∷ message Controller (Client 0) (Release 0)
+      ∷ message Controller Switch (SnapFrom 2 3 2)
+      ∷ message Switch Controller (SnapBegun 3 0)
+      ∷ message Controller Switch (SnapRead 2 3 0)
+      ∷ message Switch Controller (SnapSame 3 0)
+      ∷ message Controller (Client 0) (Release 0)
+      ∷ message Controller (Client 0) (Ask 2)
+      ∷ message (Client 0) Controller (Told 2 0 0 None)
+      ∷ message Controller (Server 0) (TopAsk 2)
+      ∷ message (Server 0) Controller (TopIs 2 0 0)
       ∷ [];
   log =
       at 5 (Snapped 1 0 0 0)
       ∷ at 7 Stopped
       ∷ at 13 (Recovered 0 0)
       ∷ at 18 (Snapped 2 0 0 0)
+      ∷ at 24 (Snapped 3 0 0 1)
+      ∷ at 26 Stopped
+      ∷ at 32 (Recovered 0 0)
       ∷ [];
 }
 

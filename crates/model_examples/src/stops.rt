@@ -34,7 +34,7 @@ pub fn two_stops()
     ensures last { last_of Stops.two_stops ≡ Stops.two_stops.table.map }
 {}
 
-/// After a stop the next snapshot is not by difference.
+/// After a stop the next snapshot is not by difference, and the one after it is; the second round has the next number.
 pub fn stop_between_snapshots()
     ensures table { table_of Stops.stop_between_snapshots ≡ Stops.stop_between_snapshots.table }
     ensures course { course_of Stops.stop_between_snapshots ≡ Stops.stop_between_snapshots.course }
