@@ -28,11 +28,13 @@ impl Model for Admission {
         × (a.free ≡ free_count a.slots.items)) };
 }
 
-ghost use Rattle.std.specs.Prelude.{◌≡◌, ◌<◌, ◌≤◌, ◌+◌, ◌^◌, length, replicate, None, IsTrue, IfOk, IfSome, is_some, not};
+ghost use Rattle.std.specs.Prelude.{◌≡◌, ◌<◌, ◌≤◌, ◌+◌, ◌^◌, length, replicate, None, IsTrue, IfOk, IfSome, is_some};
+ghost use Rattle.std.specs.Prelude.{not};
 ghost use Rattle.std.specs.List.{list_any};
 ghost use Rattle.far_base.specs.declared.slot_state.SlotState.TheVariants.{Free, Held};
 ghost use Rattle.far_model.specs.Evictions as model;
-ghost use Rattle.admission.specs.AdmissionView.{is_evicting, with_slot, admitted, acked, acked_slot, evicting_slot, passed, emptied, first_of};
+ghost use Rattle.admission.specs.AdmissionView.{is_evicting, with_slot, admitted, acked, acked_slot, evicting_slot};
+ghost use Rattle.admission.specs.AdmissionView.{passed, emptied, first_of};
 
 /// So many free slots.
 fn free_slots(alloc: Global, count: u32) -> Result<Vec<SlotState>, AllocError>

@@ -26,10 +26,30 @@ gone_on_if e (Some next) = gone_on e (next_of next)
 
 -- what the controller does next with an eviction that has gone on, if it has
 abbrev pub goes_on : Config → ControllerState → Eviction → Next → Turn ControllerState
-goes_on config c e (Send packet) = record { state = record c { eviction = Some e }; out = to_party Switch packet ∷ []; notes = [] }
-goes_on config c e (Store item) = record { state = record c { eviction = Some (record e { job = c.next_job }); next_job = c.next_job + 1 }; out = store_of config c.next_job item ∷ []; notes = [] }
-goes_on config c e (Done tries) = record { state = record (with_state c e.slot Free) { eviction = None }; out = []; notes = Evicted e.slot e.key tries ∷ [] }
-goes_on config c e (Kept tries last) = record { state = drop_want_if e.for_want (record (with_state c e.slot (Held e.key e.tag)) { eviction = None }); out = []; notes = KeptNote e.slot e.key last.num ∷ [] }
+goes_on config c e (Send packet) = record {
+  state = record c { eviction = Some e };
+  out = to_party Switch packet ∷ [];
+  notes = [];
+}
+goes_on config c e (Store item) = record {
+  state = record c {
+    eviction = Some (record e { job = c.next_job });
+    next_job = c.next_job + 1;
+  };
+  out = store_of config c.next_job item ∷ [];
+  notes = [];
+}
+goes_on config c e (Done tries) = record {
+  state = record (with_state c e.slot Free) { eviction = None };
+  out = [];
+  notes = Evicted e.slot e.key tries ∷ [];
+}
+goes_on config c e (Kept tries last) = record {
+  state = drop_want_if e.for_want
+      (record (with_state c e.slot (Held e.key e.tag)) { eviction = None });
+  out = [];
+  notes = KeptNote e.slot e.key last.num ∷ [];
+}
 
 abbrev pub goes_on_if : Config → ControllerState → Eviction → Option NextStep → Turn ControllerState
 goes_on_if config c e None = idle (record c { eviction = Some e })

@@ -12,4 +12,5 @@ notes_of Nothing last = []
 notes_of (Admitted slot key tag) last = entry.Admitted slot key tag ∷ []
 notes_of (Evicted slot key tries) last = entry.Evicted slot key tries ∷ []
 notes_of (Kept slot key num) last = entry.Kept slot key num ∷ []
-notes_of (Completed same) last = entry.Snapped last.id last.point (length (view_records last.views)) same ∷ view_items 0 last.views
+notes_of (Completed same) last =
+    entry.Snapped last.id last.point (length (view_records last.views)) same ∷ view_items 0 last.views

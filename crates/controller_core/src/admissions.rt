@@ -1,4 +1,5 @@
-ghost use Rattle.std.specs.Prelude.{◌≡◌, ◌+◌, ◌≤◌, ◌<◌, ◌^◌, ◌++◌, true, false, Some, None, IsTrue, IfSome, OnOk, OnErr, is_some, vec_len, vec_capacity};
+ghost use Rattle.std.specs.Prelude.{◌≡◌, ◌+◌, ◌≤◌, ◌<◌, ◌^◌, ◌++◌, true, false, Some, None, IsTrue, IfSome, OnOk};
+ghost use Rattle.std.specs.Prelude.{OnErr, is_some, vec_len, vec_capacity};
 ghost use Rattle.far_model.specs.Controller as model;
 ghost use Rattle.far_model.specs.Evictions as slots;
 ghost use Rattle.controller_core.specs.ControllerView.{at_state};
@@ -17,7 +18,8 @@ impl Controller {
     /// Whether a held slot could make room for a want.
     #[tactic(auto, using(crate::proofs::Ticks::room_is))]
     fn can_make_room(&self) -> bool
-        ensures { result ≡ is_some (model.tick_room self.now.state (slots.victim self.now.state.hand self.now.state.slots)) }
+        ensures { result ≡ is_some (model.tick_room self.now.state
+            (slots.victim self.now.state.hand self.now.state.slots)) }
     {
         self.eviction.is_none() && self.admission.has_held()
     }
@@ -65,8 +67,10 @@ impl Controller {
     pub fn tick(&mut self, out: &mut Vec<Out>) -> Result<(), Memory>
         requires ready { is_some (model.tick self.old.state) ≡ true }
         requires room { HasRoom self.old.state }
-        ensures state { OnOk result (IfSome (model.tick self.old.state) (λ turn. self.new ≡ at_state self.old turn.state)) }
-        ensures out { OnOk result (IfSome (model.tick self.old.state) (λ turn. out.new.items ≡ out.old.items ++ turn.out)) }
+        ensures state { OnOk result (IfSome (model.tick self.old.state) (λ turn. self.new
+            ≡ at_state self.old turn.state)) }
+        ensures out { OnOk result (IfSome (model.tick self.old.state) (λ turn. out.new.items
+            ≡ out.old.items ++ turn.out)) }
         ensures err { OnErr result (self.new ≡ self.old) }
         ensures err_out { OnErr result (out.new.items ≡ out.old.items) }
     {
@@ -79,11 +83,14 @@ impl Controller {
     }
 
     fn serve(&mut self, key: Key, out: &mut Vec<Out>)
-        requires ready { is_some (model.tick_want self.old.state key (slots.first_place (slots.has_key key) self.old.state.slots)) ≡ true }
+        requires ready { is_some (model.tick_want self.old.state key (slots.first_place
+            (slots.has_key key) self.old.state.slots)) ≡ true }
         requires room { HasRoom self.old.state }
         requires spare { vec_len out.old + 1 ≤ vec_capacity out.old }
-        ensures state { IfSome (model.tick_want self.old.state key (slots.first_place (slots.has_key key) self.old.state.slots)) (λ turn. self.new ≡ at_state self.old turn.state) }
-        ensures out { IfSome (model.tick_want self.old.state key (slots.first_place (slots.has_key key) self.old.state.slots)) (λ turn. out.new.items ≡ out.old.items ++ turn.out) }
+        ensures state { IfSome (model.tick_want self.old.state key (slots.first_place
+            (slots.has_key key) self.old.state.slots)) (λ turn. self.new ≡ at_state self.old turn.state) }
+        ensures out { IfSome (model.tick_want self.old.state key (slots.first_place
+            (slots.has_key key) self.old.state.slots)) (λ turn. out.new.items ≡ out.old.items ++ turn.out) }
     {
         match self.admission.holds(&key) {
             Some(_) => self.wants.drop_first(),
@@ -92,11 +99,14 @@ impl Controller {
     }
 
     fn admit(&mut self, key: Key, out: &mut Vec<Out>)
-        requires ready { is_some (model.tick_free self.old.state key (slots.first_place slots.is_free self.old.state.slots)) ≡ true }
+        requires ready { is_some (model.tick_free self.old.state key
+            (slots.first_place slots.is_free self.old.state.slots)) ≡ true }
         requires room { HasRoom self.old.state }
         requires spare { vec_len out.old + 1 ≤ vec_capacity out.old }
-        ensures state { IfSome (model.tick_free self.old.state key (slots.first_place slots.is_free self.old.state.slots)) (λ turn. self.new ≡ at_state self.old turn.state) }
-        ensures out { IfSome (model.tick_free self.old.state key (slots.first_place slots.is_free self.old.state.slots)) (λ turn. out.new.items ≡ out.old.items ++ turn.out) }
+        ensures state { IfSome (model.tick_free self.old.state key
+            (slots.first_place slots.is_free self.old.state.slots)) (λ turn. self.new ≡ at_state self.old turn.state) }
+        ensures out { IfSome (model.tick_free self.old.state key (slots.first_place slots.is_free self.old.state.slots))
+            (λ turn. out.new.items ≡ out.old.items ++ turn.out) }
     {
         match self.admission.next_admit(key) {
             Some((slot, tag)) => {
@@ -117,10 +127,13 @@ impl Controller {
     }
 
     fn make_room(&mut self, out: &mut Vec<Out>)
-        requires ready { is_some (model.tick_room self.old.state (slots.victim self.old.state.hand self.old.state.slots)) ≡ true }
+        requires ready { is_some (model.tick_room self.old.state
+            (slots.victim self.old.state.hand self.old.state.slots)) ≡ true }
         requires spare { vec_len out.old + 1 ≤ vec_capacity out.old }
-        ensures state { IfSome (model.tick_room self.old.state (slots.victim self.old.state.hand self.old.state.slots)) (λ turn. self.new ≡ at_state self.old turn.state) }
-        ensures out { IfSome (model.tick_room self.old.state (slots.victim self.old.state.hand self.old.state.slots)) (λ turn. out.new.items ≡ out.old.items ++ turn.out) }
+        ensures state { IfSome (model.tick_room self.old.state (slots.victim self.old.state.hand self.old.state.slots))
+            (λ turn. self.new ≡ at_state self.old turn.state) }
+        ensures out { IfSome (model.tick_room self.old.state (slots.victim self.old.state.hand self.old.state.slots))
+            (λ turn. out.new.items ≡ out.old.items ++ turn.out) }
     {
         let Some(slot) = self.admission.victim() else {
             unreachable!()

@@ -38,7 +38,8 @@ impl Model for Controller {
     ghost invariant = { λ c. IsFit (view_of c) };
 }
 
-ghost use Rattle.std.specs.Prelude.{◌≡◌, ◌++◌, ◌∷◌, [], not, nat_eq, length, true, false, Some, IfOk, OnOk, OnErr, is_some};
+ghost use Rattle.std.specs.Prelude.{◌≡◌, ◌++◌, ◌∷◌, [], not, nat_eq, length, true, false, Some, IfOk, OnOk, OnErr};
+ghost use Rattle.std.specs.Prelude.{is_some};
 ghost use Rattle.far_base.specs.Limits.{IsConfig};
 ghost use Rattle.far_model.specs.Controller as model;
 ghost use Rattle.controller_core.specs.ControllerView.{at_state};

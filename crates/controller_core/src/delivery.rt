@@ -26,9 +26,12 @@ impl Controller {
     #[tactic(auto, using(crate::proofs::Telling::told_quiet, crate::proofs::Telling::answered_quiet, crate::proofs::Telling::top_quiet))]
     pub fn deliver(&mut self, packet: &Packet, out: &mut Vec<Out>) -> Result<Note, Memory>
         requires room { HasRoom self.old.state }
-        ensures state { OnOk result (self.new ≡ at_state self.old (model.controller_takes self.old.config self.old.state packet.now).state) }
-        ensures out { OnOk result (out.new.items ≡ out.old.items ++ (model.controller_takes self.old.config self.old.state packet.now).out) }
-        ensures notes { IfOk result (λ note. notes_of note self.new.state.last ≡ (model.controller_takes self.old.config self.old.state packet.now).notes) }
+        ensures state { OnOk result (self.new ≡ at_state self.old
+            (model.controller_takes self.old.config self.old.state packet.now).state) }
+        ensures out { OnOk result (out.new.items ≡ out.old.items ++
+            (model.controller_takes self.old.config self.old.state packet.now).out) }
+        ensures notes { IfOk result (λ note. notes_of note self.new.state.last ≡
+            (model.controller_takes self.old.config self.old.state packet.now).notes) }
         ensures err { OnErr result (self.new ≡ self.old) }
         ensures err_out { OnErr result (out.new.items ≡ out.old.items) }
     {

@@ -1,4 +1,5 @@
-ghost use Rattle.std.specs.Prelude.{◌≡◌, ◌+◌, ◌≤◌, ◌<◌, ◌^◌, ◌++◌, Some, IfOk, OnOk, OnErr, is_some, vec_len, vec_capacity};
+ghost use Rattle.std.specs.Prelude.{◌≡◌, ◌+◌, ◌≤◌, ◌<◌, ◌^◌, ◌++◌, Some, IfOk, OnOk, OnErr, is_some, vec_len};
+ghost use Rattle.std.specs.Prelude.{vec_capacity};
 ghost use Rattle.far_model.specs.Controller as model;
 ghost use Rattle.controller_core.specs.ControllerView.{at_state, EvictsSlot};
 ghost use Rattle.controller_core.specs.Going.{goes_on_if};
@@ -20,7 +21,8 @@ impl Controller {
         requires spare { vec_len out.old + 1 ≤ vec_capacity out.old }
         ensures state { self.new ≡ at_state self.old (goes_on_if self.old.config self.old.state eviction next).state }
         ensures out { out.new.items ≡ out.old.items ++ (goes_on_if self.old.config self.old.state eviction next).out }
-        ensures notes { notes_of result self.new.state.last ≡ (goes_on_if self.old.config self.old.state eviction next).notes }
+        ensures notes { notes_of result self.new.state.last ≡
+            (goes_on_if self.old.config self.old.state eviction next).notes }
     {
         match next {
             None => {
@@ -81,9 +83,14 @@ impl Controller {
         out: &mut Vec<Out>,
     ) -> Result<Note, Memory>
         requires room { HasRoom self.old.state }
-        ensures state { OnOk result (self.new ≡ at_state self.old (model.peek_answered self.old.config self.old.state slot tag latest num body self.old.state.eviction).state) }
-        ensures out { OnOk result (out.new.items ≡ out.old.items ++ (model.peek_answered self.old.config self.old.state slot tag latest num body self.old.state.eviction).out) }
-        ensures notes { IfOk result (λ note. notes_of note self.new.state.last ≡ (model.peek_answered self.old.config self.old.state slot tag latest num body self.old.state.eviction).notes) }
+        ensures state { OnOk result (self.new ≡ at_state self.old
+            (model.peek_answered self.old.config self.old.state slot tag latest num body
+            self.old.state.eviction).state) }
+        ensures out { OnOk result (out.new.items ≡ out.old.items ++
+            (model.peek_answered self.old.config self.old.state slot tag latest num body self.old.state.eviction).out) }
+        ensures notes { IfOk result (λ note. notes_of note self.new.state.last ≡
+            (model.peek_answered self.old.config self.old.state slot tag latest num body
+            self.old.state.eviction).notes) }
         ensures err { OnErr result (self.new ≡ self.old) }
         ensures err_out { OnErr result (out.new.items ≡ out.old.items) }
     {
@@ -107,9 +114,15 @@ impl Controller {
         out: &mut Vec<Out>,
     ) -> Result<Note, Memory>
         requires room { HasRoom self.old.state }
-        ensures state { OnOk result (self.new ≡ at_state self.old (model.removal_answered self.old.config self.old.state slot tag done num body self.old.state.eviction).state) }
-        ensures out { OnOk result (out.new.items ≡ out.old.items ++ (model.removal_answered self.old.config self.old.state slot tag done num body self.old.state.eviction).out) }
-        ensures notes { IfOk result (λ note. notes_of note self.new.state.last ≡ (model.removal_answered self.old.config self.old.state slot tag done num body self.old.state.eviction).notes) }
+        ensures state { OnOk result (self.new ≡ at_state self.old
+            (model.removal_answered self.old.config self.old.state slot tag done num body
+            self.old.state.eviction).state) }
+        ensures out { OnOk result (out.new.items ≡ out.old.items ++
+            (model.removal_answered self.old.config self.old.state slot tag done num body
+            self.old.state.eviction).out) }
+        ensures notes { IfOk result (λ note. notes_of note self.new.state.last ≡
+            (model.removal_answered self.old.config self.old.state slot tag done num body
+            self.old.state.eviction).notes) }
         ensures err { OnErr result (self.new ≡ self.old) }
         ensures err_out { OnErr result (out.new.items ≡ out.old.items) }
     {

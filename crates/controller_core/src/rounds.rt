@@ -1,4 +1,5 @@
-ghost use Rattle.std.specs.Prelude.{◌≡◌, ◌+◌, ◌-◌, ◌≤◌, ◌<◌, ◌^◌, ◌++◌, ◌∷◌, [], true, false, Some, IfOk, OnOk, OnErr, is_some, length, vec_len, vec_capacity};
+ghost use Rattle.std.specs.Prelude.{◌≡◌, ◌+◌, ◌-◌, ◌≤◌, ◌<◌, ◌^◌, ◌++◌, ◌∷◌, [], true, false, Some, IfOk, OnOk, OnErr};
+ghost use Rattle.std.specs.Prelude.{is_some, length, vec_len, vec_capacity};
 ghost use Rattle.far_model.specs.Controller as model;
 ghost use Rattle.controller_core.specs.ControllerView.{at_state};
 ghost use Rattle.controller_core.specs.Notes.{notes_of};
@@ -26,7 +27,10 @@ fn send_told(
     requires stores { round.old.stores + 1 < 2 ^ 64 - 1 }
     requires spare { vec_len out.old + 1 ≤ vec_capacity out.old }
     ensures drawn { result ≡ length (model.store_outs config.now job item) }
-    ensures round { round.new ≡ record round.old { stores = round.old.stores + length (model.store_outs config.now job item) } }
+    ensures round { round.new ≡ record round.old {
+      stores = round.old.stores + length
+          (model.store_outs config.now job item);
+    } }
     ensures out { out.new.items ≡ out.old.items ++ model.store_outs config.now job item }
     ensures len { vec_len out.new ≤ vec_len out.old + 1 }
     ensures capacity { vec_capacity out.new ≡ vec_capacity out.old }
@@ -48,8 +52,10 @@ impl Controller {
     pub fn start_recovery(&mut self, out: &mut Vec<Out>) -> Result<(), Memory>
         requires round { is_some self.old.state.round ≡ false }
         requires room { HasRoom self.old.state }
-        ensures state { OnOk result (self.new ≡ at_state self.old (model.start_recovery self.old.config self.old.state).state) }
-        ensures out { OnOk result (out.new.items ≡ out.old.items ++ (model.start_recovery self.old.config self.old.state).out) }
+        ensures state { OnOk result (self.new ≡ at_state self.old
+            (model.start_recovery self.old.config self.old.state).state) }
+        ensures out { OnOk result (out.new.items ≡ out.old.items ++
+            (model.start_recovery self.old.config self.old.state).out) }
         ensures err { OnErr result (self.new ≡ self.old) }
         ensures err_out { OnErr result (out.new.items ≡ out.old.items) }
     {
@@ -112,8 +118,10 @@ impl Controller {
         out: &mut Vec<Out>,
     ) -> Result<(), Memory>
         requires room { HasRoom self.old.state }
-        ensures state { OnOk result (self.new ≡ at_state self.old (model.client_told self.old.config self.old.state number caller total item self.old.state.round).state) }
-        ensures out { OnOk result (out.new.items ≡ out.old.items ++ (model.client_told self.old.config self.old.state number caller total item self.old.state.round).out) }
+        ensures state { OnOk result (self.new ≡ at_state self.old
+            (model.client_told self.old.config self.old.state number caller total item self.old.state.round).state) }
+        ensures out { OnOk result (out.new.items ≡ out.old.items ++
+            (model.client_told self.old.config self.old.state number caller total item self.old.state.round).out) }
         ensures err { OnErr result (self.new ≡ self.old) }
         ensures err_out { OnErr result (out.new.items ≡ out.old.items) }
     {
@@ -134,8 +142,10 @@ impl Controller {
 
     /// The answer to a store, of the eviction or of the round.
     pub(crate) fn store_answered(&mut self, job: u64, out: &mut Vec<Out>) -> Result<(), Memory>
-        ensures state { OnOk result (self.new ≡ at_state self.old (model.store_answered self.old.config self.old.state job self.old.state.eviction).state) }
-        ensures out { OnOk result (out.new.items ≡ out.old.items ++ (model.store_answered self.old.config self.old.state job self.old.state.eviction).out) }
+        ensures state { OnOk result (self.new ≡ at_state self.old
+            (model.store_answered self.old.config self.old.state job self.old.state.eviction).state) }
+        ensures out { OnOk result (out.new.items ≡ out.old.items ++
+            (model.store_answered self.old.config self.old.state job self.old.state.eviction).out) }
         ensures err { OnErr result (self.new ≡ self.old) }
         ensures err_out { OnErr result (out.new.items ≡ out.old.items) }
     {
@@ -157,8 +167,10 @@ impl Controller {
     #[tactic(auto, using(crate::proofs::Telling::stored_is))]
     fn round_stored(&mut self, job: u64, out: &mut Vec<Out>)
         requires spare { vec_len out.old + self.old.config.servers ≤ vec_capacity out.old }
-        ensures state { self.new ≡ at_state self.old (model.round_stored self.old.config self.old.state job self.old.state.round).state }
-        ensures out { out.new.items ≡ out.old.items ++ (model.round_stored self.old.config self.old.state job self.old.state.round).out }
+        ensures state { self.new ≡ at_state self.old
+            (model.round_stored self.old.config self.old.state job self.old.state.round).state }
+        ensures out { out.new.items ≡ out.old.items ++
+            (model.round_stored self.old.config self.old.state job self.old.state.round).out }
     {
         let Some(mut round) = self.round.take() else {
             return;
@@ -173,7 +185,8 @@ impl Controller {
 
     /// The greatest version number of a server.
     pub(crate) fn top_told(&mut self, number: u32, server: u32, top: u64)
-        ensures state { self.new ≡ at_state self.old (model.top_told self.old.config self.old.state number server top self.old.state.round).state }
+        ensures state { self.new ≡ at_state self.old
+            (model.top_told self.old.config self.old.state number server top self.old.state.round).state }
         ensures out { (model.top_told self.old.config self.old.state number server top self.old.state.round).out ≡ [] }
     {
         let Some(mut round) = self.round.take() else {

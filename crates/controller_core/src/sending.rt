@@ -109,7 +109,8 @@ pub(crate) fn send_stores(
     requires servers { 1 ≤ config.now.servers }
     requires jobs { first_job + length views.now < 2 ^ 64 }
     requires spare { vec_len out.old + length (model.numbered_records (view_records views.now)) ≤ vec_capacity out.old }
-    ensures { out.new.items ≡ out.old.items ++ model.stores_of config.now first_job (model.numbered_records (view_records views.now)) }
+    ensures { out.new.items ≡ out.old.items ++ model.stores_of config.now first_job (model.numbered_records
+        (view_records views.now)) }
 {
     let mut job = first_job;
     for view in views {

@@ -1,4 +1,5 @@
-ghost use Rattle.std.specs.Prelude.{◌≡◌, ◌+◌, ◌≤◌, ◌<◌, ◌^◌, ◌++◌, ◌&&◌, [], slice_index_or, None, true, false, Some, IfOk, OnOk, OnErr, is_some, nat_eq, nat_lt, length, vec_len, vec_capacity};
+ghost use Rattle.std.specs.Prelude.{◌≡◌, ◌+◌, ◌≤◌, ◌<◌, ◌^◌, ◌++◌, ◌&&◌, [], slice_index_or, None, true, false, Some};
+ghost use Rattle.std.specs.Prelude.{IfOk, OnOk, OnErr, is_some, nat_eq, nat_lt, length, vec_len, vec_capacity};
 ghost use Rattle.far_model.specs.Controller as model;
 ghost use Rattle.far_model.specs.Snapshots as snapshots;
 ghost use Rattle.controller_core.specs.ControllerView.{at_state};
@@ -57,9 +58,12 @@ impl Controller {
         requires whole { snapshots.is_whole job ≡ true }
         requires places { length job.parts ≡ length self.old.state.slots }
         requires spare { vec_len out.old + self.old.config.clients ≤ vec_capacity out.old }
-        ensures state { self.new ≡ at_state self.old (model.completes self.old.config self.old.state (snapshots.completed job) job.sames).state }
-        ensures out { out.new.items ≡ out.old.items ++ (model.completes self.old.config self.old.state (snapshots.completed job) job.sames).out }
-        ensures notes { notes_of result self.new.state.last ≡ (model.completes self.old.config self.old.state (snapshots.completed job) job.sames).notes }
+        ensures state { self.new ≡ at_state self.old (model.completes self.old.config self.old.state
+            (snapshots.completed job) job.sames).state }
+        ensures out { out.new.items ≡ out.old.items ++ (model.completes self.old.config self.old.state
+            (snapshots.completed job) job.sames).out }
+        ensures notes { notes_of result self.new.state.last ≡ (model.completes self.old.config self.old.state
+            (snapshots.completed job) job.sames).notes }
     {
         let same = job.sames();
         let snapshot = job.complete();
@@ -77,7 +81,8 @@ impl Controller {
         requires spare { vec_len out.old + self.old.config.clients ≤ vec_capacity out.old }
         ensures state { self.new ≡ at_state self.old (model.job_turn self.old.config self.old.state job []).state }
         ensures out { out.new.items ≡ out.old.items ++ (model.job_turn self.old.config self.old.state job []).out }
-        ensures notes { notes_of result self.new.state.last ≡ (model.job_turn self.old.config self.old.state job []).notes }
+        ensures notes { notes_of result self.new.state.last ≡
+            (model.job_turn self.old.config self.old.state job []).notes }
     {
         if job.is_whole() {
             return self.complete(job, out);
@@ -91,9 +96,12 @@ impl Controller {
         requires places { length job.parts ≡ length self.old.state.slots }
         requires clients { vec_len out.old + self.old.config.clients ≤ vec_capacity out.old }
         requires slots { vec_len out.old + length self.old.state.slots ≤ vec_capacity out.old }
-        ensures state { self.new ≡ at_state self.old (model.job_turn self.old.config self.old.state job (snapshots.part_reads self.old.state.epoch job.id 0 job.parts)).state }
-        ensures out { out.new.items ≡ out.old.items ++ (model.job_turn self.old.config self.old.state job (snapshots.part_reads self.old.state.epoch job.id 0 job.parts)).out }
-        ensures notes { notes_of result self.new.state.last ≡ (model.job_turn self.old.config self.old.state job (snapshots.part_reads self.old.state.epoch job.id 0 job.parts)).notes }
+        ensures state { self.new ≡ at_state self.old (model.job_turn self.old.config self.old.state job
+            (snapshots.part_reads self.old.state.epoch job.id 0 job.parts)).state }
+        ensures out { out.new.items ≡ out.old.items ++ (model.job_turn self.old.config self.old.state job
+            (snapshots.part_reads self.old.state.epoch job.id 0 job.parts)).out }
+        ensures notes { notes_of result self.new.state.last ≡ (model.job_turn self.old.config self.old.state job
+            (snapshots.part_reads self.old.state.epoch job.id 0 job.parts)).notes }
     {
         if job.is_whole() {
             return self.complete(job, out);
@@ -110,9 +118,12 @@ impl Controller {
         point: u64,
         out: &mut Vec<Out>,
     ) -> Result<Note, Memory>
-        ensures state { OnOk result (self.new ≡ at_state self.old (model.snapshot_begun self.old.config self.old.state id point self.old.state.job).state) }
-        ensures out { OnOk result (out.new.items ≡ out.old.items ++ (model.snapshot_begun self.old.config self.old.state id point self.old.state.job).out) }
-        ensures notes { IfOk result (λ note. notes_of note self.new.state.last ≡ (model.snapshot_begun self.old.config self.old.state id point self.old.state.job).notes) }
+        ensures state { OnOk result (self.new ≡ at_state self.old
+            (model.snapshot_begun self.old.config self.old.state id point self.old.state.job).state) }
+        ensures out { OnOk result (out.new.items ≡ out.old.items ++
+            (model.snapshot_begun self.old.config self.old.state id point self.old.state.job).out) }
+        ensures notes { IfOk result (λ note. notes_of note self.new.state.last ≡
+            (model.snapshot_begun self.old.config self.old.state id point self.old.state.job).notes) }
         ensures err { OnErr result (self.new ≡ self.old) }
         ensures err_out { OnErr result (out.new.items ≡ out.old.items) }
     {
@@ -136,9 +147,12 @@ impl Controller {
         view: Option<Record>,
         out: &mut Vec<Out>,
     ) -> Result<Note, Memory>
-        ensures state { OnOk result (self.new ≡ at_state self.old (model.part_came self.old.config self.old.state id slot view self.old.state.job).state) }
-        ensures out { OnOk result (out.new.items ≡ out.old.items ++ (model.part_came self.old.config self.old.state id slot view self.old.state.job).out) }
-        ensures notes { IfOk result (λ note. notes_of note self.new.state.last ≡ (model.part_came self.old.config self.old.state id slot view self.old.state.job).notes) }
+        ensures state { OnOk result (self.new ≡ at_state self.old
+            (model.part_came self.old.config self.old.state id slot view self.old.state.job).state) }
+        ensures out { OnOk result (out.new.items ≡ out.old.items ++
+            (model.part_came self.old.config self.old.state id slot view self.old.state.job).out) }
+        ensures notes { IfOk result (λ note. notes_of note self.new.state.last ≡
+            (model.part_came self.old.config self.old.state id slot view self.old.state.job).notes) }
         ensures err { OnErr result (self.new ≡ self.old) }
         ensures err_out { OnErr result (out.new.items ≡ out.old.items) }
     {
@@ -162,9 +176,12 @@ impl Controller {
         slot: u32,
         out: &mut Vec<Out>,
     ) -> Result<Note, Memory>
-        ensures state { OnOk result (self.new ≡ at_state self.old (model.same_came self.old.config self.old.state id slot self.old.state.job).state) }
-        ensures out { OnOk result (out.new.items ≡ out.old.items ++ (model.same_came self.old.config self.old.state id slot self.old.state.job).out) }
-        ensures notes { IfOk result (λ note. notes_of note self.new.state.last ≡ (model.same_came self.old.config self.old.state id slot self.old.state.job).notes) }
+        ensures state { OnOk result (self.new ≡ at_state self.old
+            (model.same_came self.old.config self.old.state id slot self.old.state.job).state) }
+        ensures out { OnOk result (out.new.items ≡ out.old.items ++
+            (model.same_came self.old.config self.old.state id slot self.old.state.job).out) }
+        ensures notes { IfOk result (λ note. notes_of note self.new.state.last ≡
+            (model.same_came self.old.config self.old.state id slot self.old.state.job).notes) }
         ensures err { OnErr result (self.new ≡ self.old) }
         ensures err_out { OnErr result (out.new.items ≡ out.old.items) }
     {
@@ -178,9 +195,12 @@ impl Controller {
     fn add_same(&mut self, id: u32, slot: u32, out: &mut Vec<Out>) -> Note
         requires view { slot < length self.old.state.last.views }
         requires spare { vec_len out.old + self.old.config.clients ≤ vec_capacity out.old }
-        ensures state { self.new ≡ at_state self.old (same_with self.old.config self.old.state id slot (slice_index_or self.old.state.last.views slot None) self.old.state.job).state }
-        ensures out { out.new.items ≡ out.old.items ++ (same_with self.old.config self.old.state id slot (slice_index_or self.old.state.last.views slot None) self.old.state.job).out }
-        ensures notes { notes_of result self.new.state.last ≡ (same_with self.old.config self.old.state id slot (slice_index_or self.old.state.last.views slot None) self.old.state.job).notes }
+        ensures state { self.new ≡ at_state self.old (same_with self.old.config self.old.state id slot
+            (slice_index_or self.old.state.last.views slot None) self.old.state.job).state }
+        ensures out { out.new.items ≡ out.old.items ++ (same_with self.old.config self.old.state id slot
+            (slice_index_or self.old.state.last.views slot None) self.old.state.job).out }
+        ensures notes { notes_of result self.new.state.last ≡ (same_with self.old.config self.old.state id slot
+            (slice_index_or self.old.state.last.views slot None) self.old.state.job).notes }
     {
         let Some(mut job) = self.job.take() else {
             return Note::Nothing;

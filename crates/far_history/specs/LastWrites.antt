@@ -15,11 +15,13 @@ use Rattle.far_history.specs.Stored.{body_in}
 
 abbrev pub with_write : List ℕ → List (List ℕ × Versioned) → ℕ → Option Sending → List (List ℕ × Versioned)
 with_write bytes entries num None = entries
-with_write bytes entries num (Some sent) = insert_entry (slice_cmp nat_cmp) entries sent.line.key (record { num = num; body = body_in bytes sent.body })
+with_write bytes entries num (Some sent) = insert_entry (slice_cmp nat_cmp) entries sent.line.key
+    (record { num = num; body = body_in bytes sent.body })
 
 -- the entries of the keys, with the bodies that stand among the bytes, after one more operation of the history
 abbrev pub entries_with : List ℕ → List Told → List (List ℕ × Versioned) → Placed → List (List ℕ × Versioned)
-entries_with bytes table entries place = if place.read then entries else with_write bytes entries place.num (slice_index_or table place.op unheard).sent
+entries_with bytes table entries place = if place.read then entries else with_write bytes entries place.num
+    (slice_index_or table place.op unheard).sent
 
 abbrev pub entries_after : List ℕ → List Told → List (List ℕ × Versioned) → List Placed → List (List ℕ × Versioned)
 entries_after bytes table entries [] = entries

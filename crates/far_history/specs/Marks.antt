@@ -23,7 +23,8 @@ key_in table op = sent_key (slice_index_or table op unheard).sent
 
 abbrev pub mark_shown : ℕ → ℕ → ℕ → Option (List ℕ) → Option Mark
 mark_shown moment op num None = None
-mark_shown moment op num (Some key) = Some (record { key = key; num = num; shown = true; moment = moment; read = false; op = op })
+mark_shown moment op num (Some key) = Some
+    (record { key = key; num = num; shown = true; moment = moment; read = false; op = op })
 
 abbrev pub shown_by_entry : List Told → ℕ → LogEntry → Option Mark
 shown_by_entry table moment (Emitted op num body near) = mark_shown moment op num (key_in table op)
@@ -43,11 +44,20 @@ where_answered (Some moment) num = num
 
 -- the number for which an operation waits
 abbrev pub awaited_number : Told → Sending → Option ℕ
-awaited_number row sent = if is_read sent.line.op then where_answered row.answered (reply_num row.emitted) else row.numbered
+awaited_number row sent = if is_read sent.line.op
+    then where_answered row.answered (reply_num row.emitted)
+    else row.numbered
 
 abbrev pub mark_wanted : ℕ → Sending → Option ℕ → Option Mark
 mark_wanted op sent None = None
-mark_wanted op sent (Some num) = Some (record { key = sent.line.key; num = num; shown = false; moment = sent.moment; read = is_read sent.line.op; op = op })
+mark_wanted op sent (Some num) = Some (record {
+  key = sent.line.key;
+  num = num;
+  shown = false;
+  moment = sent.moment;
+  read = is_read sent.line.op;
+  op = op;
+})
 
 abbrev pub wanted_of : ℕ → Told → Option Sending → Option Mark
 wanted_of op row None = None

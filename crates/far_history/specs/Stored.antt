@@ -1,16 +1,23 @@
 -- Log lines whose bodies stand among the bytes of the log.
-use Rattle.std.specs.Prelude.{ℕ, ◌+◌, ◌≤◌, ◌/◌, min, nat_le, if◌then◌else◌, List, length, map, take, drop, is_some, Option, None, Some}
+use Rattle.std.specs.Prelude.{ℕ, ◌+◌, ◌≤◌, ◌/◌, min, nat_le, if◌then◌else◌, List, length, map, take, drop, is_some}
+use Rattle.std.specs.Prelude.{Option, None, Some}
 use Rattle.far_base.specs.Padded.{text_of}
 use Rattle.far_base.specs.declared.body.TheConstants.{BODY_LIMIT}
 use Rattle.far_base.specs.declared.plan.OpLine.{OpLine}
 use Rattle.far_base.specs.declared.log.LogLine.{LogLine}
 use Rattle.far_base.specs.declared.log.LogEntry.{LogEntry}
-use Rattle.far_base.specs.declared.log.LogEntry.TheVariants.{Sent, Numbered, Emitted, Answered, Admitted, Evicted, Kept, Snapped, SnapItem, Stopped, Recovered, RecItem}
+use Rattle.far_base.specs.declared.log.LogEntry.TheVariants.{Sent, Numbered, Emitted, Answered, Admitted, Evicted, Kept}
+use Rattle.far_base.specs.declared.log.LogEntry.TheVariants.{Snapped, SnapItem, Stopped, Recovered, RecItem}
 use Rattle.far_history.specs.declared.stored.Stretch.{Stretch}
 use Rattle.far_history.specs.declared.stored.Doing.{Doing}
 use Rattle.far_history.specs.declared.stored.Stored.{Stored}
 use Rattle.far_history.specs.declared.stored.Bare.{Bare}
-use Rattle.far_history.specs.declared.stored.Bare.TheVariants.{Sent as BareSent, Numbered as BareNumbered, Emitted as BareEmitted, Answered as BareAnswered, Admitted as BareAdmitted, Evicted as BareEvicted, Kept as BareKept, Snapped as BareSnapped, SnapItem as BareSnapItem, Stopped as BareStopped, Recovered as BareRecovered, RecItem as BareRecItem}
+use Rattle.far_history.specs.declared.stored.Bare.TheVariants.{Sent as BareSent, Numbered as BareNumbered}
+use Rattle.far_history.specs.declared.stored.Bare.TheVariants.{Emitted as BareEmitted, Answered as BareAnswered}
+use Rattle.far_history.specs.declared.stored.Bare.TheVariants.{Admitted as BareAdmitted, Evicted as BareEvicted}
+use Rattle.far_history.specs.declared.stored.Bare.TheVariants.{Kept as BareKept, Snapped as BareSnapped}
+use Rattle.far_history.specs.declared.stored.Bare.TheVariants.{SnapItem as BareSnapItem, Stopped as BareStopped}
+use Rattle.far_history.specs.declared.stored.Bare.TheVariants.{Recovered as BareRecovered, RecItem as BareRecItem}
 
 abbrev pub short_body : List ℕ → Option (List ℕ)
 short_body text = if nat_le (length text) BODY_LIMIT then Some text else None

@@ -26,10 +26,14 @@ unheard = record { sent = None; numbered = None; emitted = None; answered = None
 
 -- the table with what one more line tells, before all that were noted
 abbrev pub noted_entry : ℕ → Stretch → Bare → List Told → List Told
-noted_entry moment body (Sent op line) table = slice_set table op (record (slice_index_or table op unheard) { sent = Some (record { moment = moment; line = line; body = body }) })
-noted_entry moment body (Numbered op num) table = slice_set table op (record (slice_index_or table op unheard) { numbered = Some num })
-noted_entry moment body (Emitted op num near) table = slice_set table op (record (slice_index_or table op unheard) { emitted = Some (record { num = num; near = near; body = body }) })
-noted_entry moment body (Answered op) table = slice_set table op (record (slice_index_or table op unheard) { answered = Some moment })
+noted_entry moment body (Sent op line) table = slice_set table op
+    (record (slice_index_or table op unheard) { sent = Some (record { moment = moment; line = line; body = body }) })
+noted_entry moment body (Numbered op num) table = slice_set table op
+    (record (slice_index_or table op unheard) { numbered = Some num })
+noted_entry moment body (Emitted op num near) table = slice_set table op
+    (record (slice_index_or table op unheard) { emitted = Some (record { num = num; near = near; body = body }) })
+noted_entry moment body (Answered op) table = slice_set table op
+    (record (slice_index_or table op unheard) { answered = Some moment })
 noted_entry moment body _ table = table
 
 abbrev pub noted : Stored → List Told → List Told

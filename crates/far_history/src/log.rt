@@ -21,7 +21,12 @@ impl Model for Log {
 
     ghost Value = { RoomyLog };
 
-    ghost view = { λ l. record { steps = l.steps; lines = lines_in l.bytes.items l.stored.items; room = room_in (vec_capacity l.stored - vec_len l.stored) (vec_capacity l.bytes - vec_len l.bytes) } };
+    ghost view = { λ l. record {
+      steps = l.steps;
+      lines = lines_in l.bytes.items l.stored.items;
+      room = room_in
+          (vec_capacity l.stored - vec_len l.stored) (vec_capacity l.bytes - vec_len l.bytes);
+    } };
 
     ghost invariant = { λ l. Each (IsWithin (length l.bytes.items)) l.stored.items };
 }

@@ -23,7 +23,9 @@ fn number_to_pass(newest: &BTreeMap<Key, Versioned>, key: &Key) -> u64
 
 /// Takes the record as that of its key where its number is above the one that is there, or above 0.
 fn take_newer(newest: &mut BTreeMap<Key, Versioned>, rec: &Record) -> Result<(), Memory>
-    ensures newest { OnOk result ((records : List Held) (key : List ℕ) → IsNewestOf records key (get (slice_cmp nat_cmp) newest.old key) → IsNewestOf (records ++ rec.now ∷ []) key (get (slice_cmp nat_cmp) newest.new key)) }
+    ensures newest { OnOk result ((records : List Held) (key : List ℕ) → IsNewestOf records key (get
+        (slice_cmp nat_cmp) newest.old key) → IsNewestOf (records ++ rec.now ∷ []) key (get
+        (slice_cmp nat_cmp) newest.new key)) }
     ensures ordered { IsOrdered (slice_cmp nat_cmp) newest.old → IsOrdered (slice_cmp nat_cmp) newest.new }
 {
     if rec.num <= number_to_pass(newest, &rec.key) {
@@ -41,7 +43,8 @@ fn take_newer(newest: &mut BTreeMap<Key, Versioned>, rec: &Record) -> Result<(),
 
 /// The newest record of each key.
 fn newest_of(alloc: Global, list: &[Record]) -> Result<BTreeMap<Key, Versioned>, Memory>
-    ensures newest { IfOk result (λ newest. (key : List ℕ) → IsNewestOf list.now key (get (slice_cmp nat_cmp) newest key)) }
+    ensures newest { IfOk result (λ newest. (key : List ℕ) → IsNewestOf list.now key (get
+        (slice_cmp nat_cmp) newest key)) }
     ensures ordered { IfOk result (λ newest. IsOrdered (slice_cmp nat_cmp) newest) }
 {
     let mut newest = BTreeMap::new(alloc);

@@ -51,7 +51,9 @@ fn put_words(
     sent_at: u64,
     answered: u64,
 ) -> Result<(), Memory>
-    ensures { OnOk result (out.new.items ≡ out.old.items ++ text_line (decimal place.now.op ∷ decimal client ∷ words.now.kind.now ∷ key_text words.now.key.now ∷ decimal place.now.num ∷ body_word words.now.body.now ∷ words.now.source.now ∷ decimal sent_at ∷ decimal answered ∷ [])) }
+    ensures { OnOk result (out.new.items ≡ out.old.items ++ text_line
+        (decimal place.now.op ∷ decimal client ∷ words.now.kind.now ∷ key_text words.now.key.now ∷ decimal place.now.num
+        ∷ body_word words.now.body.now ∷ words.now.source.now ∷ decimal sent_at ∷ decimal answered ∷ [])) }
 {
     put_line(
         out,
@@ -78,7 +80,10 @@ fn put_answered(
     reply: &Reply,
     answered: u64,
 ) -> Result<(), Memory>
-    ensures { OnOk result (out.new.items ≡ out.old.items ++ words.placed_line place.now (Some (record { moment = sent.now.moment; what = op_told bytes.now sent.now })) (Some (record { moment = 0; what = answer_told bytes.now reply.now })) (Some (record { moment = answered; what = 0 }))) }
+    ensures { OnOk result (out.new.items ≡ out.old.items ++ words.placed_line place.now (Some
+        (record { moment = sent.now.moment; what = op_told bytes.now sent.now })) (Some
+        (record { moment = 0; what = answer_told bytes.now reply.now })) (Some
+        (record { moment = answered; what = 0 }))) }
 {
     let line = sent.line;
     let near = reply.near;
@@ -105,7 +110,8 @@ fn put_slot<'a>(
     key: &'a Key,
     number: u64,
 ) -> Result<(), Memory>
-    ensures { OnOk result (out.new.items ≡ out.old.items ++ text_line (first.now ∷ decimal moment ∷ decimal slot ∷ key_text key.now ∷ decimal number ∷ [])) }
+    ensures { OnOk result (out.new.items ≡ out.old.items ++ text_line
+        (first.now ∷ decimal moment ∷ decimal slot ∷ key_text key.now ∷ decimal number ∷ [])) }
 {
     put_line(
         out,
@@ -149,7 +155,8 @@ fn put_stored_item(
     num: u64,
     stretch: Stretch,
 ) -> Result<(), Memory>
-    ensures { OnOk result (out.new.items ≡ out.old.items ++ text_line (decimal slot ∷ key_text key.now ∷ decimal num ∷ body_word (body_in bytes.now stretch) ∷ [])) }
+    ensures { OnOk result (out.new.items ≡ out.old.items ++ text_line
+        (decimal slot ∷ key_text key.now ∷ decimal num ∷ body_word (body_in bytes.now stretch) ∷ [])) }
 {
     let body = body_at(bytes, stretch);
     put_line(
@@ -171,7 +178,8 @@ fn put_stored_record(
     num: u64,
     stretch: Stretch,
 ) -> Result<(), Memory>
-    ensures { OnOk result (out.new.items ≡ out.old.items ++ text_line (key_text key.now ∷ decimal num ∷ body_word (body_in bytes.now stretch) ∷ [])) }
+    ensures { OnOk result (out.new.items ≡ out.old.items ++ text_line (key_text key.now ∷ decimal num ∷ body_word
+        (body_in bytes.now stretch) ∷ [])) }
 {
     let body = body_at(bytes, stretch);
     put_line(out, &[Word::Key(key), Word::Number(num), Word::Body(&body)])
@@ -185,7 +193,8 @@ fn put_snapshot(
     point: u64,
     count: u32,
 ) -> Result<(), Memory>
-    ensures { OnOk result (out.new.items ≡ out.old.items ++ text_line (codes "snapshot" ∷ decimal moment ∷ decimal id ∷ decimal point ∷ decimal count ∷ [])) }
+    ensures { OnOk result (out.new.items ≡ out.old.items ++ text_line
+        (codes "snapshot" ∷ decimal moment ∷ decimal id ∷ decimal point ∷ decimal count ∷ [])) }
 {
     put_line(
         out,
@@ -201,7 +210,8 @@ fn put_snapshot(
 
 /// Writes the line of a recovery.
 fn put_recovery(out: &mut Vec<u8>, moment: u64, counter: u64, count: u64) -> Result<(), Memory>
-    ensures { OnOk result (out.new.items ≡ out.old.items ++ text_line (codes "recovered" ∷ decimal moment ∷ decimal counter ∷ decimal count ∷ [])) }
+    ensures { OnOk result (out.new.items ≡ out.old.items ++ text_line
+        (codes "recovered" ∷ decimal moment ∷ decimal counter ∷ decimal count ∷ [])) }
 {
     put_line(
         out,
@@ -258,7 +268,8 @@ fn put_row(out: &mut Vec<u8>, bytes: &[u8], place: &Placed, told: &Told) -> Resu
 }
 
 fn put_placed(out: &mut Vec<u8>, bytes: &[u8], table: &[Told], place: &Placed) -> Result<(), Memory>
-    ensures { OnOk result (out.new.items ≡ out.old.items ++ row_text bytes.now place.now (slice_index_or table.now place.now.op unheard)) }
+    ensures { OnOk result (out.new.items ≡ out.old.items ++ row_text bytes.now place.now
+        (slice_index_or table.now place.now.op unheard)) }
 {
     match table.get(place.op as usize) {
         Some(told) => put_row(out, bytes, place, told),

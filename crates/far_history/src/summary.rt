@@ -3,7 +3,8 @@ ghost use Rattle.far_history.specs.RoomyLog.{log_view};
 ghost use Rattle.far_history.specs.Report.{texts};
 ghost use Rattle.far_history.specs.Summary as words;
 ghost use Rattle.far_history.specs.Told.{unheard};
-ghost use Rattle.far_history.specs.Tallies.{bodiless, count_stored, greatest_stored, row_near, rows_so, same_parts_stored};
+ghost use Rattle.far_history.specs.Tallies.{bodiless, count_stored, greatest_stored, row_near, rows_so};
+ghost use Rattle.far_history.specs.Tallies.{same_parts_stored};
 
 use crate::last_writes::last_writes;
 use crate::log::Log;
@@ -162,7 +163,8 @@ fn put_count(out: &mut Vec<u8>, count: &Count) -> Result<(), Memory>
 }
 
 fn put_counts(out: &mut Vec<u8>, counts: &[Count]) -> Result<(), Memory>
-    ensures { OnOk result (out.new.items ≡ out.old.items ++ texts (λ c. words.count_text (c.word.now, c.number)) counts.now) }
+    ensures { OnOk result (out.new.items ≡ out.old.items ++ texts (λ c. words.count_text
+        (c.word.now, c.number)) counts.now) }
 {
     for count in counts {
         put_count(out, count)?;

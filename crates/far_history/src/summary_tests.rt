@@ -109,7 +109,8 @@ fn a_snapshot_by_difference_counts_the_same_parts(rt: HostRuntime) -> Result<(),
         12,
         &[snapped(5, 1, 0), snapped(11, 2, 1)],
         (0, 2),
-        b"far 1 summary\noperations 0\nanswered 0\norders 2\nsteps 12\nswitch 0\nserver 0\nsnapshots 2\nsame 1\nevicted 0\nkept 0\nrecoveries 0\ncounter 0\nkeys 0\nend\n",
+        b"far 1 summary\noperations 0\nanswered 0\norders 2\nsteps 12\nswitch 0\nserver 0\nsnapshots 2\nsame 1\n\
+         evicted 0\nkept 0\nrecoveries 0\ncounter 0\nkeys 0\nend\n",
     )
 }
 
@@ -126,7 +127,8 @@ fn a_snapshot_after_a_stop_has_no_same_parts(rt: HostRuntime) -> Result<(), Fail
             snapped(18, 2, 0),
         ],
         (0, 3),
-        b"far 1 summary\noperations 0\nanswered 0\norders 3\nsteps 19\nswitch 0\nserver 0\nsnapshots 2\nsame 0\nevicted 0\nkept 0\nrecoveries 1\ncounter 0\nkeys 0\nend\n",
+        b"far 1 summary\noperations 0\nanswered 0\norders 3\nsteps 19\nswitch 0\nserver 0\nsnapshots 2\nsame 0\n\
+         evicted 0\nkept 0\nrecoveries 1\ncounter 0\nkeys 0\nend\n",
     )
 }
 
@@ -138,7 +140,8 @@ fn two_stops_alone_are_two_recoveries(rt: HostRuntime) -> Result<(), Fail> {
         90,
         &[stopped(1), recovered(45), stopped(46), recovered(90)],
         (0, 4),
-        b"far 1 summary\noperations 0\nanswered 0\norders 4\nsteps 90\nswitch 0\nserver 0\nsnapshots 0\nsame 0\nevicted 0\nkept 0\nrecoveries 2\ncounter 0\nkeys 0\nend\n",
+        b"far 1 summary\noperations 0\nanswered 0\norders 4\nsteps 90\nswitch 0\nserver 0\nsnapshots 0\nsame 0\n\
+         evicted 0\nkept 0\nrecoveries 2\ncounter 0\nkeys 0\nend\n",
     )
 }
 
@@ -158,6 +161,7 @@ fn operations_count_by_who_answered(rt: HostRuntime) -> Result<(), Fail> {
         20,
         &lines,
         (5, 3),
-        b"far 1 summary\noperations 5\nanswered 4\norders 3\nsteps 20\nswitch 3\nserver 1\nsnapshots 0\nsame 0\nevicted 2\nkept 1\nrecoveries 0\ncounter 3\nkeys 2\nend\n",
+        b"far 1 summary\noperations 5\nanswered 4\norders 3\nsteps 20\nswitch 3\nserver 1\nsnapshots 0\nsame 0\n\
+         evicted 2\nkept 1\nrecoveries 0\ncounter 3\nkeys 2\nend\n",
     )
 }

@@ -82,7 +82,8 @@ fn a_put_and_a_get_are_reported(rt: HostRuntime) -> Result<(), Fail> {
     let log = logged(rt.alloc(), 10, &lines)?;
     let text = report_text(rt.alloc(), &log)?;
     let wanted =
-        b"far 1 report\nsteps 10\nhistory 2\n1 0 put a 1 =x server 1 5\n2 0 get a 1 =x server 6 10\ncontrol 0\nmap 1\na 1 =x\nend\n";
+        b"far 1 report\nsteps 10\nhistory 2\n1 0 put a 1 =x server 1 5\n2 0 get a 1 =x server 6 10\ncontrol 0\n\
+         map 1\na 1 =x\nend\n";
     assert!(rt; text.as_slice() == wanted.as_slice());
     Ok(())
 }
@@ -121,7 +122,8 @@ fn the_later_number_may_take_effect_first(rt: HostRuntime) -> Result<(), Fail> {
     let log = logged(rt.alloc(), 10, &lines)?;
     let text = report_text(rt.alloc(), &log)?;
     let wanted =
-        b"far 1 report\nsteps 10\nhistory 2\n1 0 put a 1 =x server 1 10\n2 1 put a 2 =y server 2 7\ncontrol 0\nmap 1\na 2 =y\nend\n";
+        b"far 1 report\nsteps 10\nhistory 2\n1 0 put a 1 =x server 1 10\n2 1 put a 2 =y server 2 7\ncontrol 0\n\
+         map 1\na 2 =y\nend\n";
     assert!(rt; text.as_slice() == wanted.as_slice());
     Ok(())
 }
@@ -198,7 +200,9 @@ fn control_entries_are_reported_in_their_order(rt: HostRuntime) -> Result<(), Fa
     let log = logged(rt.alloc(), 27, &lines)?;
     let text = report_text(rt.alloc(), &log)?;
     let wanted =
-        b"far 1 report\nsteps 27\nhistory 2\n1 0 put a 1 =p switch 5 14\n2 0 get a 1 =p server 23 27\ncontrol 4\nadmitted 4 0 a 1\nsnapshot 11 1 1 1\n0 a 1 =p\nstopped 13\nrecovered 22 1 1\na 1 =p\nmap 1\na 1 =p\nend\n";
+        b"far 1 report\nsteps 27\nhistory 2\n1 0 put a 1 =p switch 5 14\n2 0 get a 1 =p server 23 27\n\
+         control 4\nadmitted 4 0 a 1\nsnapshot 11 1 1 1\n0 a 1 =p\nstopped 13\nrecovered 22 1 1\na 1 =p\nmap 1\n\
+         a 1 =p\nend\n";
     assert!(rt; text.as_slice() == wanted.as_slice());
     Ok(())
 }

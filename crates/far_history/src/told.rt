@@ -47,7 +47,8 @@ fn op_bound(line: &Stored) -> usize
 
 /// One more than the greatest operation that the lines name, or 0.
 fn ops_bound(lines: &[Stored]) -> usize
-    ensures above { (k : ℕ) (d : Stored) → k < length lines.now → op_bound_of (slice_index_or lines.now k d).bare ≤ result }
+    ensures above { (k : ℕ) (d : Stored) → k < length lines.now → op_bound_of
+        (slice_index_or lines.now k d).bare ≤ result }
     ensures bound { result ≤ 2 ^ 32 }
 {
     let mut bound = 0;

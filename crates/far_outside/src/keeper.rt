@@ -1,4 +1,5 @@
-ghost use Rattle.std.specs.Prelude.{◌≡◌, ℕ, List, [], ◌++◌, replicate, ◌<◌, ◌≤◌, max, Option, IfOk, IfSome, OnOk, OnErr, IsErrOf};
+ghost use Rattle.std.specs.Prelude.{◌≡◌, ℕ, List, [], ◌++◌, replicate, ◌<◌, ◌≤◌, max, Option, IfOk, IfSome, OnOk};
+ghost use Rattle.std.specs.Prelude.{OnErr, IsErrOf};
 ghost use Rattle.std.specs.Option.{option_map};
 ghost use Rattle.far_base.specs.declared.record.Record.{Record};
 ghost use Rattle.far_model.specs.KeyedRecords.{by_key};
@@ -55,7 +56,8 @@ pub trait Keeper {
     /// The record of the key at the server: number 0 and an absent body where there is none.
     fn get(&mut self, server: u32, key: &Key) -> Result<Record, KeeperFault>
         requires { server < server_count self.old }
-        ensures kept { IfOk result (λ r. IfSome (records self.old) (λ all. r ≡ record_for (records_of all server) key.now)) }
+        ensures kept { IfOk result (λ r. IfSome (records self.old) (λ all. r ≡ record_for
+            (records_of all server) key.now)) }
         ensures key { IfOk result (λ r. r.key ≡ key.now) }
         ensures bound { IfOk result (λ r. r.num ≤ ceiling self.old) }
         ensures same_records { records self.new ≡ records self.old }
@@ -91,7 +93,8 @@ pub trait Keeper {
     /// before.
     fn list(&mut self, server: u32, into: &mut Vec<Record>) -> Result<(), KeeperFault>
         requires { server < server_count self.old }
-        ensures listed { OnOk result (IfSome (records self.old) (λ all. into.new.items ≡ into.old.items ++ by_key (records_of all server))) }
+        ensures listed { OnOk result (IfSome (records self.old) (λ all. into.new.items ≡ into.old.items ++ by_key
+            (records_of all server))) }
         ensures bound { OnOk result (ListsUpTo (ceiling self.old) into.old.items into.new.items) }
         ensures none { OnErr result (into.new.items ≡ into.old.items) }
         ensures same_records { records self.new ≡ records self.old }

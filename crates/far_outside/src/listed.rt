@@ -22,7 +22,13 @@ impl Model for MemSource {
 
     ghost Value = { ListedSource };
 
-    ghost view = { λ s. record { left = drop s.at s.bytes.items; calls = s.calls; fails = s.fails.items; faults = s.faults } };
+    ghost view = { λ s. record {
+      left = drop s.at s.bytes.items;
+      calls = s.calls;
+      fails = s.fails.items;
+      faults =
+          s.faults;
+    } };
 
     ghost invariant = { λ s. s.at ≤ vec_len s.bytes };
 }
@@ -45,7 +51,8 @@ impl Model for MemSink {
     ghost view = { λ s. record { written = s.bytes.items; calls = s.calls; fails = s.fails.items; faults = s.faults } };
 }
 
-ghost use Rattle.std.specs.Prelude.{◌≡◌, ◌≤◌, ◌<◌, ◌^◌, ◌↔◌, [], length, Option, Some, IfOk, OnErr, IsErr, IsErrOf, IsTrue};
+ghost use Rattle.std.specs.Prelude.{◌≡◌, ◌≤◌, ◌<◌, ◌^◌, ◌↔◌, [], length, Option, Some, IfOk, OnErr, IsErr, IsErrOf};
+ghost use Rattle.std.specs.Prelude.{IsTrue};
 ghost use Rattle.far_outside.specs.Bytes.{Takes, Puts};
 ghost use Rattle.far_outside.specs.Faults.{Rose, counted};
 ghost use Rattle.far_outside.specs.Listed.{is_listed};

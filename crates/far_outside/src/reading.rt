@@ -47,7 +47,8 @@ pub fn read_all<S: Source>(alloc: Global, source: &mut S, most: u32) -> Result<V
     ensures further { OnErr result (IsFurther (S.left source.old) (S.left source.new)) }
     ensures later { S.fault_count source.old ≤ S.fault_count source.new }
     ensures cause { IsErrOf result ReadStop.Failed → Rose (S.fault_count source.old) (S.fault_count source.new) }
-    ensures settled { ¬ Rose (S.fault_count source.old) (S.fault_count source.new) → IfSome (S.left source.old) (λ before. Settles most before result) }
+    ensures settled { ¬ Rose (S.fault_count source.old) (S.fault_count source.new) → IfSome (S.left source.old)
+        (λ before. Settles most before result) }
 {
     let mut bytes = Vec::new(alloc);
     let mut buf = [0; 4096];

@@ -36,10 +36,9 @@ fn note_reached<S: Switch + Drop, K: Keeper + Drop>(world: &World<S, K>)
 }
 
 /// Steps the world, in which nothing has happened, by the picks of the workload, whose plan may be another, until a
-/// recovery has begun, and answers how many steps were made. The world's plan has an order to stop the switch, of either
-/// form. `KeeperFailed` only where the
-/// keeper's count of faults rose in this call. After an error the world is as after the steps that were made, which are
-/// the first of those that the picks choose.
+/// recovery has begun, and answers how many steps were made. The world's plan has an order to stop the switch, of
+/// either form. `KeeperFailed` only where the keeper's count of faults rose in this call. After an error the world is
+/// as after the steps that were made, which are the first of those that the picks choose.
 pub fn pump_to_recover<S: Switch + Drop, K: Keeper + Drop>(
     world: &mut World<S, K>,
     load: &Workload,

@@ -23,8 +23,10 @@ fn is_an_order(event: Event) -> bool
 
 /// The pick after an event: an order uses none.
 pub(crate) fn pick_after(picker: &mut Picker, load: &Workload, event: Event, pick: u64) -> u64
-    ensures pick { (n : ℕ) → IsAt load.now (n + 1) picker.old → pick ≡ pick_of load.now n → result ≡ pick_of load.now (if is_order event then n else n + 1) }
-    ensures at { (n : ℕ) → IsAt load.now (n + 1) picker.old → IsAt load.now ((if is_order event then n else n + 1) + 1) picker.new }
+    ensures pick { (n : ℕ) → IsAt load.now (n + 1) picker.old → pick ≡ pick_of load.now n → result ≡ pick_of load.now
+        (if is_order event then n else n + 1) }
+    ensures at { (n : ℕ) → IsAt load.now (n + 1) picker.old → IsAt load.now
+        ((if is_order event then n else n + 1) + 1) picker.new }
 {
     if is_an_order(event) {
         return pick;
@@ -32,9 +34,10 @@ pub(crate) fn pick_after(picker: &mut Picker, load: &Workload, event: Event, pic
     picker.next(load)
 }
 
-/// Steps the world by the picks of the workload, whose plan may be another, until no event can happen, which is where it is finished, and answers
-/// how many steps were made. `KeeperFailed` only where the keeper's count of faults rose in this call. After an error
-/// the world is as after the steps that were made, which are the first of those that the picks choose.
+/// Steps the world by the picks of the workload, whose plan may be another, until no event can happen, which is where
+/// it is finished, and answers how many steps were made. `KeeperFailed` only where the keeper's count of faults rose in
+/// this call. After an error the world is as after the steps that were made, which are the first of those that the
+/// picks choose.
 pub fn pump<S: Switch + Drop, K: Keeper + Drop>(
     world: &mut World<S, K>,
     load: &Workload,

@@ -34,7 +34,8 @@ fn put_record_at<'a>(out: &mut Vec<u8>, place: &'a [u8], rec: &'a Record) -> Res
 }
 
 fn put_client_record(out: &mut Vec<u8>, client: u32, rec: &Record) -> Result<(), Memory>
-    ensures { OnOk result (out.new.items ≡ out.old.items ++ text_line (codes "client" ∷ decimal client ∷ record_words rec.now)) }
+    ensures { OnOk result (out.new.items ≡ out.old.items ++ text_line
+        (codes "client" ∷ decimal client ∷ record_words rec.now)) }
 {
     put_line(
         out,

@@ -80,7 +80,8 @@ impl Reader {
     fn push(&mut self, item: &KeptItem) -> Result<(), Memory>
         requires { IsIndexed self.old }
         ensures items { OnOk result (self.new.items.items ≡ self.old.items.items ++ item.now ∷ []) }
-        ensures indexed { OnOk result (Agree (records_in self.old.items.items ++ item.now.rec ∷ []) → IsIndexed self.new) }
+        ensures indexed { OnOk result (Agree (records_in self.old.items.items ++ item.now.rec ∷ []) →
+            IsIndexed self.new) }
     {
         let place = self.items.len();
         let at = (item.rec.key, item.rec.num);
@@ -139,7 +140,8 @@ pub fn parse(alloc: Global, text: &[u8]) -> Result<Image, ImageFault>
     ensures only { (items : List Kept) → IsImage text.now items → IsReadAs result items }
     ensures agree { IfOk result (λ image. Agree (records_in image)) }
     // What is read from a text of the first version is read from it with the first line of the second version too.
-    ensures migrates { IfOk result (λ image. (rest : List ℕ) → text.now ≡ title_line First ++ rest → IsImage (title_line Second ++ rest) image) }
+    ensures migrates { IfOk result (λ image. (rest : List ℕ) → text.now ≡ title_line First ++ rest → IsImage
+        (title_line Second ++ rest) image) }
     // A fault that is named is that of the first faulty line.
     ensures fault { Blames result (HasImageFault text.now) }
     // The first faulty line is named with its fault, unless memory is refused.

@@ -9,7 +9,8 @@ pub struct RegArray<T> {
     cells: Vec<T>,
 }
 
-ghost use Rattle.std.specs.Prelude.{◌≡◌, ◌+◌, ◌<◌, ◌≤◌, ◌^◌, length, Some, slice_get, slice_index_or, slice_set, replicate, IfOk};
+ghost use Rattle.std.specs.Prelude.{◌≡◌, ◌+◌, ◌<◌, ◌≤◌, ◌^◌, length, Some, slice_get, slice_index_or, slice_set};
+ghost use Rattle.std.specs.Prelude.{replicate, IfOk};
 ghost use Rattle.register_stages.specs.Arrays.{cells_of, place_of};
 
 fn filled<T: Copy>(alloc: Global, item: T, count: usize) -> Result<Vec<T>, AllocError>

@@ -52,7 +52,8 @@ pub fn first_restart_restores()
     ensures { (plan : PlanView) (before after : List Event) → IsPlan plan
         → IsRun plan (opening plan) (before ++ Recover ∷ after) → Each (λ (e : Event). e ≢ Recover) before
         → is_quiet plan (run plan (opening plan) (before ++ Recover ∷ after)) ≡ true
-        → BeginsWithRecovery (run plan (opening plan) before) (run plan (opening plan) (before ++ Recover ∷ after)).log }
+        → BeginsWithRecovery (run plan (opening plan) before)
+        (run plan (opening plan) (before ++ Recover ∷ after)).log }
 {}
 
 /// A round is under way only while the switch is stopped, and all that it waits for is on its way.

@@ -3,9 +3,11 @@ use Rattle.std.specs.Prelude.{ℕ, List, [], ◌∷◌, ◌++◌, Option, None, 
 use Rattle.std.specs.Fmt.{decimal}
 use Rattle.far_text.specs.Text.{text_line}
 use Rattle.workload.specs.declared.fault.Limit.{Limit}
-use Rattle.workload.specs.declared.fault.Limit.TheVariants.{Input, Clients, Servers, Slots, Hot, Body, Ops, Orders, Snaps, Stops, Picks}
+use Rattle.workload.specs.declared.fault.Limit.TheVariants.{Input, Clients, Servers, Slots, Hot, Body, Ops, Orders}
+use Rattle.workload.specs.declared.fault.Limit.TheVariants.{Snaps, Stops, Picks}
 use Rattle.run_main.specs.declared.status.Status.{Status}
-use Rattle.run_main.specs.declared.status.Status.TheVariants.{Done, Usage, BadLine, ReadFault, WriteFault, KeeperFault, Memory, TooLarge, BadImage, Conflict}
+use Rattle.run_main.specs.declared.status.Status.TheVariants.{Done, Usage, BadLine, ReadFault, WriteFault, KeeperFault}
+use Rattle.run_main.specs.declared.status.Status.TheVariants.{Memory, TooLarge, BadImage, Conflict}
 
 abbrev pub usage_line : List ℕ
 usage_line = codes "usage: far replay, run, image, recover, or bulk START OPS\n"

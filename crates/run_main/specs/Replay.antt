@@ -38,8 +38,8 @@ IsAccount Report plan log text = IsReport log text
 IsAccount Summary plan log text = IsSummary log (length plan.ops) (length plan.orders) text
 
 -- the text is the account of the run of the workload by its picks. Every operation is answered. The operations have one
--- history, which is legal and keeps real-time order across all stops. At each restart the servers had, for each key, the
--- newest record of what was kept when the recovery began, no older than any answer before. These are the servers'
+-- history, which is legal and keeps real-time order across all stops. At each restart the servers had, for each key,
+-- the newest record of what was kept when the recovery began, no older than any answer before. These are the servers'
 -- records at the end
 pub record IsReplayOf (work : WorkView) (account : Account) (text : List ℕ) (records : List (List Record))
     : Type 0 where

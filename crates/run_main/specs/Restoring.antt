@@ -13,7 +13,8 @@ use Rattle.run_main.specs.Images.{IsImageOf, IsMapOf, has_stop}
 use Rattle.run_main.specs.Inputs.{IsWorkload}
 use Rattle.run_main.specs.Replay.{IsPickedRun, IsReplayOf, log_of, state_after}
 use Rattle.run_main.specs.Top.{IsDone}
-use Rattle.run_main.specs.declared.command.Command.TheVariants.{Image as ImageCommand, Recover as RecoverCommand, Replay as ReplayCommand}
+use Rattle.run_main.specs.declared.command.Command.TheVariants.{Image as ImageCommand, Recover as RecoverCommand}
+use Rattle.run_main.specs.declared.command.Command.TheVariants.{Replay as ReplayCommand}
 use Rattle.run_main.specs.declared.task.Account.TheVariants.{Report}
 
 -- the map is that of the records of the first restart that the log tells of
@@ -23,7 +24,8 @@ pub record IsMapOfFirstRestart (log : List LogLine) (map : List ℕ) : Type 0 wh
   pub first : recovered_blocks log ≡ block ∷ later
   pub told : map ≡ map_text block.records
 
--- the report is that of the run of the workload by its picks, and the map has the records of its first `recovered` block
+-- the report is that of the run of the workload by its picks, and the map has the records of its first `recovered`
+-- block
 pub record IsMapOfReport (work : WorkView) (report map : List ℕ) : Type 0 where
   pub events : List Event
   pub runs : IsPickedRun work events

@@ -14,7 +14,8 @@ use Rattle.run_main.specs.Lines.{bad_line, too_large_line, usage_line}
 use Rattle.run_main.specs.Replay.{log_of, state_after}
 use Rattle.run_main.specs.Top.{IsOrMemory}
 use Rattle.run_main.specs.declared.status.Status.{Status}
-use Rattle.run_main.specs.declared.status.Status.TheVariants.{Done, Usage, BadLine, ReadFault, WriteFault, Memory, TooLarge}
+use Rattle.run_main.specs.declared.status.Status.TheVariants.{Done, Usage, BadLine, ReadFault, WriteFault, Memory}
+use Rattle.run_main.specs.declared.status.Status.TheVariants.{TooLarge}
 
 -- the one word `run`
 abbrev pub IsRunWord : List (List ℕ) → Type 0

@@ -1,5 +1,6 @@
 -- The steps of a top call: the task that is read, and what is said.
-use Rattle.std.specs.Prelude.{◌≡◌, ◌⊎◌, ℕ, ◌<◌, ◌≤◌, List, ◌++◌, length, take, Option, None, Some, Result, Ok, Err, IfErr, IfOk, IfSome, OnOk}
+use Rattle.std.specs.Prelude.{◌≡◌, ◌⊎◌, ℕ, ◌<◌, ◌≤◌, List, ◌++◌, length, take, Option, None, Some, Result, Ok, Err}
+use Rattle.std.specs.Prelude.{IfErr, IfOk, IfSome, OnOk}
 use Rattle.far_base.specs.declared.kept.KeptItem.{KeptItem}
 use Rattle.workload.specs.WorkView.{WorkView}
 use Rattle.server_keeper.specs.declared.step.StepFault.{StepFault}
@@ -10,7 +11,8 @@ use Rattle.run_main.specs.Tasks.{IsOfKind, IsReady, IsRefusedIn, IsRefusedFor, I
 use Rattle.run_main.specs.Top.{ReadFirst, ReadToEnd}
 use Rattle.run_main.specs.declared.command.Command.{Command}
 use Rattle.run_main.specs.declared.status.Status.{Status}
-use Rattle.run_main.specs.declared.status.Status.TheVariants.{Done, Usage, BadLine, ReadFault, WriteFault, KeeperFault, Memory, TooLarge, BadImage, Conflict}
+use Rattle.run_main.specs.declared.status.Status.TheVariants.{Done, Usage, BadLine, ReadFault, WriteFault, KeeperFault}
+use Rattle.run_main.specs.declared.status.Status.TheVariants.{Memory, TooLarge, BadImage, Conflict}
 use Rattle.run_main.specs.declared.task.Task.{Task}
 use Rattle.run_main.specs.declared.task.Task.TheVariants.{Run, Keep, Merge}
 use Rattle.run_main.specs.declared.top.TheConstants.{INPUT_LIMIT}

@@ -1,11 +1,14 @@
 -- How a top call ended: the number of the program's exit, and the status of a faulty workload or image.
 use Rattle.std.specs.Prelude.{ℕ}
 use Rattle.kept_image.specs.declared.fault.ImageFault.{ImageFault}
-use Rattle.kept_image.specs.declared.fault.ImageFault.TheVariants.{BadLine as BadImageFault, Conflict as ConflictFault, Memory as NoImageMemory}
+use Rattle.kept_image.specs.declared.fault.ImageFault.TheVariants.{BadLine as BadImageFault, Conflict as ConflictFault}
+use Rattle.kept_image.specs.declared.fault.ImageFault.TheVariants.{Memory as NoImageMemory}
 use Rattle.workload.specs.declared.fault.WorkFault.{WorkFault}
-use Rattle.workload.specs.declared.fault.WorkFault.TheVariants.{BadLine as BadLineFault, TooLarge as TooLargeFault, Memory as NoMemory}
+use Rattle.workload.specs.declared.fault.WorkFault.TheVariants.{BadLine as BadLineFault, TooLarge as TooLargeFault}
+use Rattle.workload.specs.declared.fault.WorkFault.TheVariants.{Memory as NoMemory}
 use Rattle.run_main.specs.declared.status.Status.{Status}
-use Rattle.run_main.specs.declared.status.Status.TheVariants.{Done, Usage, BadLine, ReadFault, WriteFault, KeeperFault, Memory, TooLarge, BadImage, Conflict}
+use Rattle.run_main.specs.declared.status.Status.TheVariants.{Done, Usage, BadLine, ReadFault, WriteFault, KeeperFault}
+use Rattle.run_main.specs.declared.status.Status.TheVariants.{Memory, TooLarge, BadImage, Conflict}
 
 -- the number with which the program ends
 abbrev pub exit_number : Status → ℕ

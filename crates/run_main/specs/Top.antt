@@ -8,7 +8,8 @@ use Rattle.run_main.specs.Tasks.{HasTask, IsRefusedFor, IsRefusedIn, IsTask}
 use Rattle.run_main.specs.Texts.{IsTextOf}
 use Rattle.run_main.specs.declared.command.Command.{Command}
 use Rattle.run_main.specs.declared.status.Status.{Status}
-use Rattle.run_main.specs.declared.status.Status.TheVariants.{Done, Usage, BadLine, ReadFault, WriteFault, KeeperFault, Memory, TooLarge, BadImage, Conflict}
+use Rattle.run_main.specs.declared.status.Status.TheVariants.{Done, Usage, BadLine, ReadFault, WriteFault, KeeperFault}
+use Rattle.run_main.specs.declared.status.Status.TheVariants.{Memory, TooLarge, BadImage, Conflict}
 use Rattle.run_main.specs.declared.task.Task.{Task}
 
 -- ---- the answers
@@ -98,7 +99,8 @@ pub record IsDone (command : Command) (input text : List ℕ) (records : Option 
 -- the status and the text that are due for the input that the source tells and the servers' records that the keeper
 -- tells afterwards
 abbrev pub IsDue : Option Command → Option (List ℕ) → Option (List (List Record)) → Status → List ℕ → Type 0
-IsDue (Some command) left records Done text = IfSome (input_of command left) (λ input. IsDone command input text records)
+IsDue (Some command) left records Done text = IfSome (input_of command left)
+    (λ input. IsDone command input text records)
 IsDue (Some command) left records (BadLine line) text = IsRefusedIn command left (BadLine line) × (text ≡ bad_line line)
 IsDue (Some command) left records (TooLarge limit line) text =
     IsRefusedIn command left (TooLarge limit line) × (text ≡ too_large_line limit line)

@@ -57,8 +57,10 @@ fn with_stop(load: Workload) -> Result<Workload, Memory>
 
 /// The image of what would be kept if the switch lost its memory now.
 fn image_of<K: Keeper + Drop>(alloc: Global, world: &mut World<Cache, K>) -> Result<Vec<u8>, Status>
-    ensures text { Tells world.old.keeper.records → IfOk result (λ text. text.items ≡ image_text (kept_records world.old.state)) }
-    ensures reads { Tells world.old.keeper.records → IfOk result (λ text. AreTold (kept_records world.old.state) → IsImage text.items (map told_item (kept_records world.old.state))) }
+    ensures text { Tells world.old.keeper.records → IfOk result (λ text. text.items ≡ image_text
+        (kept_records world.old.state)) }
+    ensures reads { Tells world.old.keeper.records → IfOk result (λ text. AreTold (kept_records world.old.state) →
+        IsImage text.items (map told_item (kept_records world.old.state))) }
     ensures fault { IfErr result (IsRunFault (Rose world.old.keeper.faults world.new.keeper.faults)) }
     ensures later { world.old.keeper.faults ≤ world.new.keeper.faults }
     ensures world { world.new ≡ with_count world.old world.new.keeper.faults }
@@ -82,7 +84,8 @@ fn run_to_recovery<K: Keeper + Drop>(
     requires stops { has_stop world.plan ≡ true }
     requires events { world.events ≡ [] }
     requires state { Tells world.keeper.records → world.state ≡ opening world.plan }
-    ensures text { Tells world.keeper.records → IfOk result.text (λ text. IfSome (K.records result.keeper) (λ all. IsImageOf (record load.now { plan = world.plan }) text.items all)) }
+    ensures text { Tells world.keeper.records → IfOk result.text (λ text. IfSome (K.records result.keeper)
+        (λ all. IsImageOf (record load.now { plan = world.plan }) text.items all)) }
     ensures fault { IfErr result.text (IsRunFault (Rose world.keeper.faults (K.fault_count result.keeper))) }
     ensures later { world.keeper.faults ≤ K.fault_count result.keeper }
     ensures tells { is_some (K.records result.keeper) ≡ is_some world.keeper.records }
@@ -99,7 +102,8 @@ fn run_to_recovery<K: Keeper + Drop>(
 /// The run of the workload by its picks until a recovery begins, and the image of what is kept then.
 pub(crate) fn keep<K: Keeper + Drop>(alloc: Global, load: Workload, keeper: K) -> Made<K>
     requires { IsPlain load }
-    ensures text { Tells (K.records keeper) → IfOk result.text (λ text. IsTextOf (Task.Keep load) text.items (K.records result.keeper)) }
+    ensures text { Tells (K.records keeper) → IfOk result.text (λ text. IsTextOf (Task.Keep load) text.items
+        (K.records result.keeper)) }
     ensures fault { IfErr result.text (IsRunFault (Rose (K.fault_count keeper) (K.fault_count result.keeper))) }
     ensures later { K.fault_count keeper ≤ K.fault_count result.keeper }
     ensures tells { Tells (K.records keeper) → Tells (K.records result.keeper) }

@@ -16,7 +16,8 @@ use std::alloc::Global;
 /// Does the task, over the keeper where it makes a run.
 pub(crate) fn made_of<K: Keeper + Drop>(alloc: Global, task: Task, keeper: K) -> Made<K>
     requires { IsReady task }
-    ensures text { SeesTask task (K.records keeper) → IfOk result.text (λ text. IsTextOf task text.items (K.records result.keeper)) }
+    ensures text { SeesTask task (K.records keeper) → IfOk result.text (λ text. IsTextOf task text.items
+        (K.records result.keeper)) }
     ensures fault { IfErr result.text (IsTaskFault task (Rose (K.fault_count keeper) (K.fault_count result.keeper))) }
     ensures later { K.fault_count keeper ≤ K.fault_count result.keeper }
     ensures tells { Tells (K.records keeper) → Tells (K.records result.keeper) }

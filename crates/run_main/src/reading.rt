@@ -3,7 +3,8 @@ ghost use Rattle.far_outside.specs.Faults.{Rose};
 ghost use Rattle.far_outside.specs.Reading.{HasReadAll};
 ghost use Rattle.workload.specs.Plain.{IsPlain};
 ghost use Rattle.run_main.specs.Inputs.{IsKeptList, IsWorkload};
-ghost use Rattle.run_main.specs.Saying.{IsImageParsingFault, IsImageReadingFault, IsParsingFault, IsRead, IsReadImage, IsReadingFault, IsTextFault, SettlesImage, SettlesReading, SettlesText};
+ghost use Rattle.run_main.specs.Saying.{IsImageParsingFault, IsImageReadingFault, IsParsingFault, IsRead, IsReadImage};
+ghost use Rattle.run_main.specs.Saying.{IsReadingFault, IsTextFault, SettlesImage, SettlesReading, SettlesText};
 ghost use Rattle.run_main.specs.Top.{ReadFirst, ReadToEnd};
 
 use crate::status::Status;
@@ -17,10 +18,12 @@ use workload::{Limit, Workload, parse};
 fn read_text<S: Source>(alloc: Global, source: &mut S) -> Result<Vec<u8>, Status>
     ensures whole { IfOk result (λ bytes. HasReadAll (S.left source.old) (S.left source.new) bytes.items) }
     ensures short { IfOk result (λ bytes. length bytes.items ≤ INPUT_LIMIT) }
-    ensures cause { IfErr result (IsTextFault (S.left source.old) (Rose (S.fault_count source.old) (S.fault_count source.new))) }
+    ensures cause { IfErr result (IsTextFault (S.left source.old) (Rose (S.fault_count source.old)
+        (S.fault_count source.new))) }
     ensures first { IfErr result (ReadFirst (S.left source.old) (S.left source.new)) }
     ensures later { S.fault_count source.old ≤ S.fault_count source.new }
-    ensures calm { ¬ Rose (S.fault_count source.old) (S.fault_count source.new) → IfSome (S.left source.old) (λ input. SettlesText input result) }
+    ensures calm { ¬ Rose (S.fault_count source.old) (S.fault_count source.new) → IfSome (S.left source.old)
+        (λ input. SettlesText input result) }
 {
     match read_all(alloc, source, INPUT_LIMIT) {
         Ok(bytes) => Ok(bytes),
@@ -49,9 +52,11 @@ pub(crate) fn read_workload<S: Source>(alloc: Global, source: &mut S) -> Result<
     ensures read { IfOk result (λ work. IfSome (S.left source.old) (λ input. IsRead input work)) }
     ensures plain { IfOk result (λ work. IsPlain work) }
     ensures end { OnOk result (ReadToEnd (S.left source.old) (S.left source.new)) }
-    ensures cause { IfErr result (IsReadingFault (S.left source.old) (Rose (S.fault_count source.old) (S.fault_count source.new))) }
+    ensures cause { IfErr result (IsReadingFault (S.left source.old) (Rose (S.fault_count source.old)
+        (S.fault_count source.new))) }
     ensures first { IfErr result (ReadFirst (S.left source.old) (S.left source.new)) }
-    ensures calm { ¬ Rose (S.fault_count source.old) (S.fault_count source.new) → IfSome (S.left source.old) (λ input. SettlesReading input result) }
+    ensures calm { ¬ Rose (S.fault_count source.old) (S.fault_count source.new) → IfSome (S.left source.old)
+        (λ input. SettlesReading input result) }
 {
     let text = read_text(alloc, source)?;
     parsed(alloc, &text)
@@ -74,9 +79,11 @@ fn parsed_image(alloc: Global, text: &[u8]) -> Result<Image, Status>
 pub(crate) fn read_image<S: Source>(alloc: Global, source: &mut S) -> Result<Image, Status>
     ensures read { IfOk result (λ image. IfSome (S.left source.old) (λ input. IsReadImage input image)) }
     ensures end { OnOk result (ReadToEnd (S.left source.old) (S.left source.new)) }
-    ensures cause { IfErr result (IsImageReadingFault (S.left source.old) (Rose (S.fault_count source.old) (S.fault_count source.new))) }
+    ensures cause { IfErr result (IsImageReadingFault (S.left source.old) (Rose (S.fault_count source.old)
+        (S.fault_count source.new))) }
     ensures first { IfErr result (ReadFirst (S.left source.old) (S.left source.new)) }
-    ensures calm { ¬ Rose (S.fault_count source.old) (S.fault_count source.new) → IfSome (S.left source.old) (λ input. SettlesImage input result) }
+    ensures calm { ¬ Rose (S.fault_count source.old) (S.fault_count source.new) → IfSome (S.left source.old)
+        (λ input. SettlesImage input result) }
 {
     let text = read_text(alloc, source)?;
     parsed_image(alloc, &text)

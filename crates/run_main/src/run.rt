@@ -1,7 +1,8 @@
 ghost use Rattle.std.specs.Prelude.{◌≡◌, ◌↔◌, ◌⊎◌, ◌≤◌, [], IsTrue, IfOk, IfSome, codes, map, string_bytes};
 ghost use Rattle.far_base.specs.Limits.{IsPlan};
 ghost use Rattle.far_outside.specs.Faults.{Rose};
-ghost use Rattle.run_main.specs.Run.{HandsBack, HasRunCause, IsRunReport, IsRunSettled, IsRunWord, IsUsageAnswer, RunWroteDue};
+ghost use Rattle.run_main.specs.Run.{HandsBack, HasRunCause, IsRunReport, IsRunSettled, IsRunWord, IsUsageAnswer};
+ghost use Rattle.run_main.specs.Run.{RunWroteDue};
 ghost use Rattle.run_main.specs.Saying.{IsAnswer, IsRead, Says};
 ghost use Rattle.run_main.specs.Top.{ReadFirst};
 
@@ -112,14 +113,18 @@ pub fn top_run<S: Source, D: Sink, G: Gate + Sync, R: Threads + Wait + Sync>(
     gate: &G,
 ) -> RunEnded
     // Each answer has its cause, and the first cause decides.
-    ensures causes { HasRunCause (map string_bytes words.now) (S.left source.old) (Rose (S.fault_count source.old) (S.fault_count source.new)) (Rose (D.fault_count sink.old) (D.fault_count sink.new)) result.status }
+    ensures causes { HasRunCause (map string_bytes words.now) (S.left source.old) (Rose (S.fault_count source.old)
+        (S.fault_count source.new)) (Rose (D.fault_count sink.old) (D.fault_count sink.new)) result.status }
     // Where no count rose the answer is the one that is due, unless memory was refused.
-    ensures settled { IsRunSettled (map string_bytes words.now) (S.left source.old) (¬ Rose (S.fault_count source.old) (S.fault_count source.new)) (¬ Rose (D.fault_count sink.old) (D.fault_count sink.new)) result.status }
+    ensures settled { IsRunSettled (map string_bytes words.now) (S.left source.old) (¬ Rose (S.fault_count source.old)
+        (S.fault_count source.new)) (¬ Rose (D.fault_count sink.old) (D.fault_count sink.new)) result.status }
     // What is written is what was due, and a report comes only after all was read.
-    ensures written { RunWroteDue (map string_bytes words.now) (S.left source.old) result.events.items (D.written sink.old) (D.written sink.new) result.status }
+    ensures written { RunWroteDue (map string_bytes words.now) (S.left source.old) result.events.items
+        (D.written sink.old) (D.written sink.new) result.status }
     ensures first { ReadFirst (S.left source.old) (S.left source.new) result.status }
     // Other words do nothing but write the usage line.
-    ensures other_words { ¬ (IsRunWord (map string_bytes words.now)) → (S.left source.new ≡ S.left source.old) × IsUsageAnswer result.status }
+    ensures other_words { ¬ (IsRunWord (map string_bytes words.now)) → (S.left source.new ≡ S.left source.old)
+        × IsUsageAnswer result.status }
     // The events are those of the run, or there are none.
     ensures events { HandsBack (map string_bytes words.now) (S.left source.old) result.status result.events.items }
 {

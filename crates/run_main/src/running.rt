@@ -84,7 +84,8 @@ fn run_to_end<K: Keeper + Drop>(
 ) -> Made<K>
     requires events { world.events ≡ [] }
     requires state { Tells world.keeper.records → world.state ≡ opening world.plan }
-    ensures text { Tells world.keeper.records → IfOk result.text (λ text. IsTextOf (Task.Run (record load.now { plan = world.plan }) account) text.items (K.records result.keeper)) }
+    ensures text { Tells world.keeper.records → IfOk result.text (λ text. IsTextOf (Task.Run
+        (record load.now { plan = world.plan }) account) text.items (K.records result.keeper)) }
     ensures fault { IfErr result.text (IsRunFault (Rose world.keeper.faults (K.fault_count result.keeper))) }
     ensures later { world.keeper.faults ≤ K.fault_count result.keeper }
     ensures tells { is_some (K.records result.keeper) ≡ is_some world.keeper.records }
@@ -107,7 +108,8 @@ pub(crate) fn replay<K: Keeper + Drop>(
     keeper: K,
 ) -> Made<K>
     requires { IsPlain load }
-    ensures text { Tells (K.records keeper) → IfOk result.text (λ text. IsTextOf (Task.Run load account) text.items (K.records result.keeper)) }
+    ensures text { Tells (K.records keeper) → IfOk result.text (λ text. IsTextOf (Task.Run load account) text.items
+        (K.records result.keeper)) }
     ensures fault { IfErr result.text (IsRunFault (Rose (K.fault_count keeper) (K.fault_count result.keeper))) }
     ensures later { K.fault_count keeper ≤ K.fault_count result.keeper }
     ensures tells { Tells (K.records keeper) → Tells (K.records result.keeper) }

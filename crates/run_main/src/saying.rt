@@ -18,7 +18,8 @@ pub(crate) fn say<D: Sink>(sink: &mut D, text: &[u8], status: Status) -> Status
     ensures said { Says (D.written sink.old) (D.written sink.new) text.now status result }
     ensures answer { IsAnswer status result }
     ensures cause { result ≡ Status.WriteFault → Rose (D.fault_count sink.old) (D.fault_count sink.new) }
-    ensures calm { ¬ Rose (D.fault_count sink.old) (D.fault_count sink.new) → (result ≡ status) ⊎ (result ≡ Status.Memory) }
+    ensures calm { ¬ Rose (D.fault_count sink.old) (D.fault_count sink.new) → (result ≡ status) ⊎ (result
+        ≡ Status.Memory) }
 {
     match sink.write(text) {
         Ok(()) => status,
@@ -88,11 +89,14 @@ fn refusal_line(alloc: Global, status: Status) -> Result<Option<Vec<u8>>, Memory
 /// Writes the line of a refusal; an answer that has no line writes nothing.
 pub(crate) fn refuse<D: Sink>(alloc: Global, sink: &mut D, status: Status) -> Status
     requires { IsEarly status }
-    ensures said { IfSome (lines.refusal_line status) (λ text. Says (D.written sink.old) (D.written sink.new) text status result) }
-    ensures silent { lines.refusal_line status ≡ None → (D.written sink.new ≡ D.written sink.old) × ((result ≡ status) ⊎ (result ≡ Status.Memory)) }
+    ensures said { IfSome (lines.refusal_line status) (λ text. Says (D.written sink.old)
+        (D.written sink.new) text status result) }
+    ensures silent { lines.refusal_line status ≡ None → (D.written sink.new ≡ D.written sink.old) × ((result ≡ status) ⊎
+        (result ≡ Status.Memory)) }
     ensures answer { IsAnswer status result }
     ensures cause { result ≡ Status.WriteFault → Rose (D.fault_count sink.old) (D.fault_count sink.new) }
-    ensures calm { ¬ Rose (D.fault_count sink.old) (D.fault_count sink.new) → (result ≡ status) ⊎ (result ≡ Status.Memory) }
+    ensures calm { ¬ Rose (D.fault_count sink.old) (D.fault_count sink.new) → (result ≡ status) ⊎ (result
+        ≡ Status.Memory) }
 {
     match refusal_line(alloc, status) {
         Ok(Some(line)) => say(sink, &line, status),

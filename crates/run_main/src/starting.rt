@@ -72,8 +72,10 @@ pub(crate) fn started<K: Keeper + Drop>(
     keeper: K,
 ) -> Result<World<Cache, K>, Unstarted<K>>
     requires { IsPlan plan }
-    ensures started { IfOk result (λ world. HasStarted plan (keeper_of (K.records keeper) (K.server_count keeper) (K.ceiling keeper) (K.fault_count keeper)) world) }
-    ensures fault { IfErr result (λ none. IsRunFault (Rose (K.fault_count keeper) (K.fault_count none.keeper)) none.status) }
+    ensures started { IfOk result (λ world. HasStarted plan (keeper_of (K.records keeper) (K.server_count keeper)
+        (K.ceiling keeper) (K.fault_count keeper)) world) }
+    ensures fault { IfErr result (λ none. IsRunFault (Rose (K.fault_count keeper)
+        (K.fault_count none.keeper)) none.status) }
     ensures later { IfErr result (λ none. K.fault_count keeper ≤ K.fault_count none.keeper) }
     ensures records { IfErr result (λ none. K.records none.keeper ≡ K.records keeper) }
 {
@@ -109,7 +111,8 @@ pub(crate) fn handed_back<K: Keeper + Drop>(
     text: Result<Vec<u8>, Status>,
 ) -> Made<K>
     ensures text { result.text ≡ text }
-    ensures keeper { keeper_of (K.records result.keeper) (K.server_count result.keeper) (K.ceiling result.keeper) (K.fault_count result.keeper) ≡ world.keeper }
+    ensures keeper { keeper_of (K.records result.keeper) (K.server_count result.keeper) (K.ceiling result.keeper)
+        (K.fault_count result.keeper) ≡ world.keeper }
     ensures reached { IsReached world }
 {
     let (_plan, _events, _log, _switch, keeper) = world.into_parts();

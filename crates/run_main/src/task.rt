@@ -34,7 +34,8 @@ pub(crate) enum Task {
 }
 
 fn replay_task<S: Source>(alloc: Global, source: &mut S) -> Result<Task, Status>
-    ensures { HasRead Command.Replay (S.left source.old) (S.left source.new) (Rose (S.fault_count source.old) (S.fault_count source.new)) result }
+    ensures { HasRead Command.Replay (S.left source.old) (S.left source.new) (Rose (S.fault_count source.old)
+        (S.fault_count source.new)) result }
 {
     match read_workload(alloc, source) {
         Ok(load) => Ok(Task::Run(load, Account::Report)),
@@ -43,7 +44,8 @@ fn replay_task<S: Source>(alloc: Global, source: &mut S) -> Result<Task, Status>
 }
 
 fn image_task<S: Source>(alloc: Global, source: &mut S) -> Result<Task, Status>
-    ensures { HasRead Command.Image (S.left source.old) (S.left source.new) (Rose (S.fault_count source.old) (S.fault_count source.new)) result }
+    ensures { HasRead Command.Image (S.left source.old) (S.left source.new) (Rose (S.fault_count source.old)
+        (S.fault_count source.new)) result }
 {
     match read_workload(alloc, source) {
         Ok(load) => Ok(Task::Keep(load)),
@@ -52,7 +54,8 @@ fn image_task<S: Source>(alloc: Global, source: &mut S) -> Result<Task, Status>
 }
 
 fn recover_task<S: Source>(alloc: Global, source: &mut S) -> Result<Task, Status>
-    ensures { HasRead Command.Recover (S.left source.old) (S.left source.new) (Rose (S.fault_count source.old) (S.fault_count source.new)) result }
+    ensures { HasRead Command.Recover (S.left source.old) (S.left source.new) (Rose (S.fault_count source.old)
+        (S.fault_count source.new)) result }
 {
     match read_image(alloc, source) {
         Ok(image) => Ok(Task::Merge(image)),
@@ -84,7 +87,8 @@ pub(crate) fn task_of<S: Source>(
     source: &mut S,
 ) -> Result<Task, Status>
     requires { HasNumbers command }
-    ensures read { HasRead command (S.left source.old) (S.left source.new) (Rose (S.fault_count source.old) (S.fault_count source.new)) result }
+    ensures read { HasRead command (S.left source.old) (S.left source.new) (Rose (S.fault_count source.old)
+        (S.fault_count source.new)) result }
     ensures untouched { ¬ (Reads command) → source.new ≡ source.old }
 {
     match command {

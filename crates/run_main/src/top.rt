@@ -15,7 +15,8 @@ ghost use Rattle.std.specs.Prelude.{◌≡◌, ◌≢◌, ◌≤◌, Some, map, 
 ghost use Rattle.far_outside.specs.Faults.{Rose};
 ghost use Rattle.run_main.specs.Commands.{HasNumbers, Reads, command_of};
 ghost use Rattle.run_main.specs.Replay.{Tells};
-ghost use Rattle.run_main.specs.Top.{HasCause, IsDecided, IsSettled, MadeNoRun, ReadFirstFor, ReadsNothing, SeesRun, WroteDue};
+ghost use Rattle.run_main.specs.Top.{HasCause, IsDecided, IsSettled, MadeNoRun, ReadFirstFor, ReadsNothing, SeesRun};
+ghost use Rattle.run_main.specs.Top.{WroteDue};
 
 /// How a top call ended, and the keeper.
 pub struct Ended<K: Keeper + Drop> {
@@ -32,9 +33,14 @@ fn obey<S: Source, D: Sink, K: Keeper + Drop>(
     keeper: K,
 ) -> Ended<K>
     requires { HasNumbers command }
-    ensures causes { HasCause (Some command) (S.left source.old) (Rose (S.fault_count source.old) (S.fault_count source.new)) (Rose (D.fault_count sink.old) (D.fault_count sink.new)) (Rose (K.fault_count keeper) (K.fault_count result.keeper)) result.status }
-    ensures settled { IsSettled (Some command) (S.left source.old) (¬ Rose (S.fault_count source.old) (S.fault_count source.new)) (¬ Rose (D.fault_count sink.old) (D.fault_count sink.new)) (¬ Rose (K.fault_count keeper) (K.fault_count result.keeper)) result.status }
-    ensures written { SeesRun (Some command) (K.records keeper) → WroteDue (Some command) (S.left source.old) (K.records result.keeper) (D.written sink.old) (D.written sink.new) result.status }
+    ensures causes { HasCause (Some command) (S.left source.old) (Rose (S.fault_count source.old)
+        (S.fault_count source.new)) (Rose (D.fault_count sink.old) (D.fault_count sink.new)) (Rose
+        (K.fault_count keeper) (K.fault_count result.keeper)) result.status }
+    ensures settled { IsSettled (Some command) (S.left source.old) (¬ Rose (S.fault_count source.old)
+        (S.fault_count source.new)) (¬ Rose (D.fault_count sink.old) (D.fault_count sink.new)) (¬ Rose
+        (K.fault_count keeper) (K.fault_count result.keeper)) result.status }
+    ensures written { SeesRun (Some command) (K.records keeper) → WroteDue (Some command) (S.left source.old)
+        (K.records result.keeper) (D.written sink.old) (D.written sink.new) result.status }
     ensures first { ReadFirstFor (Some command) (S.left source.old) (S.left source.new) result.status }
     ensures untouched { ReadsNothing (Some command) → source.new ≡ source.old }
     ensures no_run { MadeNoRun (Some command) (S.left source.old) result.status → result.keeper ≡ keeper }
@@ -84,16 +90,24 @@ pub fn top_calm<S: Source, D: Sink, K: Keeper + Drop>(
     keeper: K,
 ) -> Ended<K>
     // Each answer has its cause, and the first cause decides.
-    ensures causes { HasCause (command_of (map string_bytes words.now)) (S.left source.old) (Rose (S.fault_count source.old) (S.fault_count source.new)) (Rose (D.fault_count sink.old) (D.fault_count sink.new)) (Rose (K.fault_count keeper) (K.fault_count result.keeper)) result.status }
+    ensures causes { HasCause (command_of (map string_bytes words.now)) (S.left source.old) (Rose
+        (S.fault_count source.old) (S.fault_count source.new)) (Rose (D.fault_count sink.old) (D.fault_count sink.new))
+        (Rose (K.fault_count keeper) (K.fault_count result.keeper)) result.status }
     // Where no count rose the answer is the one that is due, unless memory was refused.
-    ensures settled { IsSettled (command_of (map string_bytes words.now)) (S.left source.old) (¬ Rose (S.fault_count source.old) (S.fault_count source.new)) (¬ Rose (D.fault_count sink.old) (D.fault_count sink.new)) (¬ Rose (K.fault_count keeper) (K.fault_count result.keeper)) result.status }
+    ensures settled { IsSettled (command_of (map string_bytes words.now)) (S.left source.old) (¬ Rose
+        (S.fault_count source.old) (S.fault_count source.new)) (¬ Rose (D.fault_count sink.old)
+        (D.fault_count sink.new)) (¬ Rose (K.fault_count keeper) (K.fault_count result.keeper)) result.status }
     // What is written is what was due, and it comes only after all was read.
-    ensures written { SeesRun (command_of (map string_bytes words.now)) (K.records keeper) → WroteDue (command_of (map string_bytes words.now)) (S.left source.old) (K.records result.keeper) (D.written sink.old) (D.written sink.new) result.status }
-    ensures first { ReadFirstFor (command_of (map string_bytes words.now)) (S.left source.old) (S.left source.new) result.status }
+    ensures written { SeesRun (command_of (map string_bytes words.now)) (K.records keeper) → WroteDue (command_of
+        (map string_bytes words.now)) (S.left source.old) (K.records result.keeper) (D.written sink.old)
+        (D.written sink.new) result.status }
+    ensures first { ReadFirstFor (command_of (map string_bytes words.now)) (S.left source.old)
+        (S.left source.new) result.status }
     // Where there is nothing to read, nothing is read.
     ensures untouched { ReadsNothing (command_of (map string_bytes words.now)) → source.new ≡ source.old }
     // Where no run was made the keeper is as it was; one that tells its records goes on telling them.
-    ensures no_run { MadeNoRun (command_of (map string_bytes words.now)) (S.left source.old) result.status → result.keeper ≡ keeper }
+    ensures no_run { MadeNoRun (command_of (map string_bytes words.now)) (S.left source.old) result.status →
+        result.keeper ≡ keeper }
     ensures tells { Tells (K.records keeper) → Tells (K.records result.keeper) }
 {
     match command_of(words) {
@@ -118,8 +132,10 @@ pub fn top_calm_in_memory(
     ensures no_write_fault { result.status ≢ Status.WriteFault }
     ensures no_keeper_fault { result.status ≢ Status.KeeperFault }
     ensures decided { IsDecided (command_of (map string_bytes words.now)) source.old result.status }
-    ensures written { WroteDue (command_of (map string_bytes words.now)) (Some source.old) (Some result.keeper) (Some sink.old) (Some sink.new) result.status }
-    ensures no_run { MadeNoRun (command_of (map string_bytes words.now)) (Some source.old) result.status → result.keeper ≡ keeper }
+    ensures written { WroteDue (command_of (map string_bytes words.now)) (Some source.old) (Some result.keeper)
+        (Some sink.old) (Some sink.new) result.status }
+    ensures no_run { MadeNoRun (command_of (map string_bytes words.now)) (Some source.old) result.status → result.keeper
+        ≡ keeper }
 {
     top_calm(alloc, words, source, sink, keeper)
 }

@@ -21,7 +21,8 @@ impl Model for MapKeeper {
     ghost view = { λ k. k.servers.items };
 }
 
-ghost use Rattle.std.specs.Prelude.{◌≡◌, ◌<◌, ◌≤◌, max, [], Some, Ok, length, false, IfOk, OnOk, OnErr, IsOkUnless, replicate};
+ghost use Rattle.std.specs.Prelude.{◌≡◌, ◌<◌, ◌≤◌, max, [], Some, Ok, length, false, IfOk, OnOk, OnErr, IsOkUnless};
+ghost use Rattle.std.specs.Prelude.{replicate};
 ghost use Rattle.far_model.specs.Servers.{top_of};
 ghost use Rattle.far_outside.specs.Keeping.{records_of, record_for, put_at};
 ghost use Rattle.server_keeper.specs.Entries.{has_key};

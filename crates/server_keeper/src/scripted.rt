@@ -22,7 +22,8 @@ impl Model for ScriptedKeeper {
     ghost view = { λ k. record { lists = k.keeper; calls = k.calls; fails = k.fails.items; faults = k.faults } };
 }
 
-ghost use Rattle.std.specs.Prelude.{◌≡◌, ◌<◌, ◌≤◌, ◌++◌, [], Some, false, max, length, replicate, IfOk, OnOk, OnErr, IsErrOf};
+ghost use Rattle.std.specs.Prelude.{◌≡◌, ◌<◌, ◌≤◌, ◌++◌, [], Some, false, max, length, replicate, IfOk, OnOk, OnErr};
+ghost use Rattle.std.specs.Prelude.{IsErrOf};
 ghost use Rattle.far_model.specs.KeyedRecords.{by_key};
 ghost use Rattle.far_model.specs.Servers.{top_of};
 ghost use Rattle.far_outside.specs.Faults.{Rose};
@@ -111,7 +112,8 @@ impl Keeper for ScriptedKeeper {
         ensures ok { OnOk result (self.new.lists ≡ put_at server rec.now self.old.lists) }
         ensures ceiling { OnOk result (top_of_all self.new.lists ≡ max (top_of_all self.old.lists) rec.now.num) }
         ensures err { OnErr result (self.new.lists ≡ self.old.lists) }
-        ensures absent { IsErrOf result KeeperFault.Memory → has_key (records_of self.old.lists server) rec.now.key ≡ false }
+        ensures absent { IsErrOf result KeeperFault.Memory → has_key (records_of self.old.lists server) rec.now.key
+            ≡ false }
         ensures later { self.old.faults ≤ self.new.faults }
         ensures cause { IsErrOf result KeeperFault.Failed → Rose self.old.faults self.new.faults }
         ensures counted { HasCounted self.old self.new result }

@@ -38,7 +38,8 @@ impl From<KeeperFault> for StepFault {
 /// server has then. The put is the last call on the keeper.
 fn keep<K: Keeper>(keeper: &mut K, server: u32, rec: Record) -> Result<Record, StepFault>
     requires { server < K.server_count keeper.old }
-    ensures stored { IfOk result (λ r. IfSome (K.records keeper.old) (λ all. r ≡ record_for (stored (records_of all server) rec) rec.key)) }
+    ensures stored { IfOk result (λ r. IfSome (K.records keeper.old) (λ all. r ≡ record_for (stored
+        (records_of all server) rec) rec.key)) }
     ensures key { IfOk result (λ r. r.key ≡ rec.key) }
     ensures bound { IfOk result (λ r. r.num ≤ K.ceiling keeper.new) }
     ensures records { OnOk result (K.records keeper.new ≡ option_map (put_at server rec) (K.records keeper.old)) }
@@ -66,9 +67,11 @@ pub fn server_step<K: Keeper>(
     requires there { server < K.server_count keeper.old }
     requires kind { IsForServer packet.now }
     ensures kind { IfOk result (λ reply. IsReplyTo server packet.now (Some reply)) }
-    ensures reply { IfOk result (λ reply. IfSome (K.records keeper.old) (λ all. Some reply ≡ server_reply server (records_of all server) packet.now)) }
+    ensures reply { IfOk result (λ reply. IfSome (K.records keeper.old) (λ all. Some reply ≡ server_reply server
+        (records_of all server) packet.now)) }
     ensures bound { IfOk result (λ reply. number_of_reply reply ≤ K.ceiling keeper.new) }
-    ensures records { OnOk result (K.records keeper.new ≡ option_map (after_packet server packet.now) (K.records keeper.old)) }
+    ensures records { OnOk result (K.records keeper.new ≡ option_map (after_packet server packet.now)
+        (K.records keeper.old)) }
     ensures ceiling { OnOk result (K.ceiling keeper.new ≡ max (K.ceiling keeper.old) (number_in packet.now)) }
     ensures same_records { OnErr result (K.records keeper.new ≡ K.records keeper.old) }
     ensures same_servers { K.server_count keeper.new ≡ K.server_count keeper.old }

@@ -25,7 +25,12 @@ impl Model for TableKeeper {
 
     ghost Value = { TableView };
 
-    ghost view = { λ k. record { is_there = is_some k.table; servers = k.servers; ceiling = k.ceiling; faults = k.faults } };
+    ghost view = { λ k. record {
+      is_there = is_some k.table;
+      servers = k.servers;
+      ceiling = k.ceiling;
+      faults = k.faults;
+    } };
 }
 
 ghost use Rattle.std.specs.Prelude.{◌≡◌, ◌≤◌, ◌<◌, ◌⊎◌, max, None, Err, is_some, false, IfOk, OnOk, OnErr, IsErrOf};

@@ -2,7 +2,10 @@
 use Rattle.std.specs.Prelude.{◌≡◌, ℕ, Bool, true, false, if◌then◌else◌, List, Option, None, Some}
 use Rattle.far_base.specs.declared.packet.Out.{Out}
 use Rattle.far_base.specs.declared.packet.Packet.{Packet}
-use Rattle.far_base.specs.declared.packet.Packet.TheVariants.{GetReq, WriteReq, GetFwd, WriteFwd, GetRep, WriteRep, GetAns, WriteAns, Hot, Admit, AdmitAck, Peek, PeekAns, Remove, RemoveAns, SnapStart, SnapBegun, SnapRead, SnapPart, SnapSame, SnapFrom}
+use Rattle.far_base.specs.declared.packet.Packet.TheVariants.{GetReq, WriteReq, GetFwd, WriteFwd, GetRep, WriteRep}
+use Rattle.far_base.specs.declared.packet.Packet.TheVariants.{GetAns, WriteAns, Hot, Admit, AdmitAck, Peek, PeekAns}
+use Rattle.far_base.specs.declared.packet.Packet.TheVariants.{Remove, RemoveAns, SnapStart, SnapBegun, SnapRead}
+use Rattle.far_base.specs.declared.packet.Packet.TheVariants.{SnapPart, SnapSame, SnapFrom}
 use Rattle.far_base.specs.declared.plan.Config.{Config}
 use Rattle.far_base.specs.declared.party.Party.TheVariants.{Client, Server, Controller}
 use Rattle.far_model.specs.View.{SlotView, server_of, held_record, shown_body}

@@ -1,11 +1,15 @@
 -- What the first stages do with a packet.
-use Rattle.std.specs.Prelude.{◌≡◌, ℕ, zero, suc, ◌+◌, ◌*◌, max, Bool, true, false, not, ◌&&◌, nat_eq, nat_lt, nat_le, if◌then◌else◌, List, [], ◌∷◌, ◌++◌, length, map, take, drop, replicate, slice_set, slice_index_or, Option, None, Some}
+use Rattle.std.specs.Prelude.{◌≡◌, ℕ, zero, suc, ◌+◌, ◌*◌, max, Bool, true, false, not, ◌&&◌, nat_eq, nat_lt, nat_le}
+use Rattle.std.specs.Prelude.{if◌then◌else◌, List, [], ◌∷◌, ◌++◌, length, map, take, drop, replicate, slice_set}
+use Rattle.std.specs.Prelude.{slice_index_or, Option, None, Some}
 use Rattle.far_base.specs.Padded.{padded, text_of, shown, length_of, is_there}
 use Rattle.far_base.specs.declared.body.TheConstants.{BODY_LIMIT}
 use Rattle.far_base.specs.declared.packet.Packet.{Packet}
-use Rattle.far_base.specs.declared.packet.Packet.TheVariants.{GetReq, WriteReq, GetRep, WriteRep, Admit, Peek, Remove, SnapStart, SnapRead, SnapFrom}
+use Rattle.far_base.specs.declared.packet.Packet.TheVariants.{GetReq, WriteReq, GetRep, WriteRep, Admit, Peek, Remove}
+use Rattle.far_base.specs.declared.packet.Packet.TheVariants.{SnapStart, SnapRead, SnapFrom}
 use Rattle.far_base.specs.declared.plan.Config.{Config}
-use Rattle.far_model.specs.View.{SlotView, SwitchView, HotCell, Mark, bound_place, bind_key, same_mark, is_key_there, is_slot_of}
+use Rattle.far_model.specs.View.{SlotView, SwitchView, HotCell, Mark, bound_place, bind_key, same_mark, is_key_there}
+use Rattle.far_model.specs.View.{is_slot_of}
 use Rattle.far_model.specs.Pass.{is_tag, in_era, counted, grows_hot, cell_of, takes_reply, may_go}
 use Rattle.switch_staged.specs.declared.cells.Gate.{Gate}
 use Rattle.switch_staged.specs.declared.cells.Head.{Head}

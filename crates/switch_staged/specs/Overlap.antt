@@ -1,5 +1,6 @@
 -- A pipeline of the stages, with at most one packet before each.
-use Rattle.std.specs.Prelude.{◌≡◌, ◌<◌, ◌≤◌, ◌+◌, ◌-◌, ◌^◌, ℕ, suc, true, List, [], ◌∷◌, ◌++◌, map, take, drop, replicate, ◌*◌, length, slice_index_or, Option, None, Some, IfSome}
+use Rattle.std.specs.Prelude.{◌≡◌, ◌<◌, ◌≤◌, ◌+◌, ◌-◌, ◌^◌, ℕ, suc, true, List, [], ◌∷◌, ◌++◌, map, take, drop}
+use Rattle.std.specs.Prelude.{replicate, ◌*◌, length, slice_index_or, Option, None, Some, IfSome}
 use Rattle.std.specs.List.{AllByRecursion}
 use Rattle.far_base.specs.Padded.{padded, text_of}
 use Rattle.far_base.specs.declared.body.TheConstants.{BODY_LIMIT}
@@ -10,7 +11,8 @@ use Rattle.switch_core.specs.declared.switch.Emit.{Emit}
 use Rattle.switch_staged.specs.declared.flight.Flight.{Flight}
 use Rattle.switch_staged.specs.Line.{answers, final}
 use Rattle.switch_staged.specs.Rows.{CELL_LENGTH}
-use Rattle.switch_staged.specs.Stages.{PlaceBelow, AdmitsWithin, entered, table_after, looked_up, heads_after, headed, taken_at_place, parted_at, hots_after, warmed, array_after, carried}
+use Rattle.switch_staged.specs.Stages.{PlaceBelow, AdmitsWithin, entered, table_after, looked_up, heads_after, headed}
+use Rattle.switch_staged.specs.Stages.{taken_at_place, parted_at, hots_after, warmed, array_after, carried}
 use Rattle.switch_staged.specs.Emits.{first_out, second_out}
 use Rattle.switch_staged.specs.Heads.{gate_after}
 use Rattle.switch_staged.specs.Through.{before_table, before_heads, before_taken, before_body, through, AreCut, IsShort}

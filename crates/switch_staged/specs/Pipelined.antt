@@ -32,7 +32,8 @@ pub record IsPipeline (config : Config) (gate : RegArray Gate) (bound : List (Op
     (entering : Option Packet) (to_table to_heads to_taken : Option Flight) (to_bodies : List
     (Option Flight)) : Type 0 where
   pub staged : IsStaged config gate bound heads taken hot bodies
-  pub reaches : IsOpen (pipeline_view config gate bound heads taken hot bodies entering to_table to_heads to_taken to_bodies)
+  pub reaches : IsOpen (pipeline_view config gate bound heads taken hot bodies entering to_table to_heads to_taken
+      to_bodies)
 
 -- no packet is inside, and the switch has no memory but these
 abbrev pub opening_pipeline : Config → ℕ → ℕ → PipelineView

@@ -1,7 +1,9 @@
 -- What each stage does with its array and with the flight.
 use Rattle.register_stages.specs.declared.array.RegArray.{RegArray}
 use Rattle.register_stages.specs.Arrays.{cells_of, place_of}
-use Rattle.std.specs.Prelude.{⊤, ◌<◌, length, map, ◌≡◌, ℕ, zero, suc, ◌+◌, Bool, true, false, not, ◌&&◌, ◌||◌, nat_eq, nat_lt, if◌then◌else◌, List, [], ◌∷◌, replicate, slice_set, slice_index_or, Option, None, Some}
+use Rattle.std.specs.Prelude.{⊤, ◌<◌, length, map, ◌≡◌, ℕ, zero, suc, ◌+◌, Bool, true, false, not, ◌&&◌, ◌||◌, nat_eq}
+use Rattle.std.specs.Prelude.{nat_lt, if◌then◌else◌, List, [], ◌∷◌, replicate, slice_set, slice_index_or, Option, None}
+use Rattle.std.specs.Prelude.{Some}
 use Rattle.far_base.specs.declared.packet.Packet.{Packet}
 use Rattle.far_base.specs.declared.packet.Packet.TheVariants.{GetReq, WriteReq, SnapRead, Admit}
 use Rattle.far_base.specs.declared.plan.Config.{Config}
@@ -15,7 +17,8 @@ use Rattle.switch_staged.specs.declared.flight.Act.TheVariants.{Keep, Absorb, Ra
 use Rattle.switch_staged.specs.declared.flight.Part.{Part}
 use Rattle.switch_staged.specs.declared.flight.Part.TheVariants.{Stays, Same, Whole}
 use Rattle.switch_staged.specs.declared.flight.Flight.{Flight}
-use Rattle.switch_staged.specs.Heads.{gate_after, goes_on, place_for, bound_after, is_own, act_for, head_after, empty_head, body_after, cells_of_body, writes}
+use Rattle.switch_staged.specs.Heads.{gate_after, goes_on, place_for, bound_after, is_own, act_for, head_after}
+use Rattle.switch_staged.specs.Heads.{empty_head, body_after, cells_of_body, writes}
 use Rattle.switch_staged.specs.Rows.{zero_cell, BODY_CELLS, row, with_row}
 
 -- ---- stage 0

@@ -7,7 +7,8 @@ use Rattle.switch_staged.specs.declared.flight.Flight.{Flight}
 use Rattle.switch_staged.specs.Changes.{IsCut}
 use Rattle.switch_staged.specs.Heads.{gate_after, new_body}
 use Rattle.switch_staged.specs.Rows.{row}
-use Rattle.switch_staged.specs.Stages.{entered, table_after, looked_up, heads_after, head_at, headed, taken_at_place, parted_at, hots_after, warmed, arrays_after, carried_all}
+use Rattle.switch_staged.specs.Stages.{entered, table_after, looked_up, heads_after, head_at, headed, taken_at_place}
+use Rattle.switch_staged.specs.Stages.{parted_at, hots_after, warmed, arrays_after, carried_all}
 use Rattle.switch_staged.specs.Whole.{Registers, Fits}
 
 -- the flight of a packet before stage 1, 2 and 3

@@ -1,5 +1,6 @@
 -- All stages together, and the view of a switch that has these registers.
-use Rattle.std.specs.Prelude.{⊤, ◌≡◌, ◌<◌, ◌≤◌, ℕ, zero, suc, ◌+◌, Bool, true, false, if◌then◌else◌, List, [], ◌∷◌, length, map, replicate, Option, None, Some}
+use Rattle.std.specs.Prelude.{⊤, ◌≡◌, ◌<◌, ◌≤◌, ℕ, zero, suc, ◌+◌, Bool, true, false, if◌then◌else◌, List, [], ◌∷◌}
+use Rattle.std.specs.Prelude.{length, map, replicate, Option, None, Some}
 use Rattle.far_base.specs.declared.packet.Packet.{Packet}
 use Rattle.far_base.specs.declared.plan.Config.{Config}
 use Rattle.far_model.specs.View.{SlotView, SwitchView, HotCell, HOT_CELLS, Mark}
@@ -9,7 +10,8 @@ use Rattle.switch_staged.specs.declared.cells.Head.{Head}
 use Rattle.switch_staged.specs.declared.cells.Taken.{Taken}
 use Rattle.switch_staged.specs.declared.flight.Flight.{Flight}
 use Rattle.switch_staged.specs.Heads.{gate_after, empty_head}
-use Rattle.switch_staged.specs.Stages.{no_taken, no_hot, entered, table_after, looked_up, heads_after, headed, taken_at_place, parted_at, hots_after, warmed, arrays_after, carried_all}
+use Rattle.switch_staged.specs.Stages.{no_taken, no_hot, entered, table_after, looked_up, heads_after, headed}
+use Rattle.switch_staged.specs.Stages.{taken_at_place, parted_at, hots_after, warmed, arrays_after, carried_all}
 use Rattle.switch_staged.specs.Rows.{all_bytes, beside, AreFull, BODY_CELLS, zero_cell}
 use Rattle.switch_staged.specs.Emits.{slot_of, first_out, second_out}
 

@@ -1,9 +1,11 @@
 //! The stages of the bodies.
-ghost use Rattle.std.specs.Prelude.{◌≡◌, ◌+◌, ◌<◌, ◌≤◌, ◌^◌, ℕ, List, length, slice_index_or, slice_set, if◌then◌else◌, IfOk};
+ghost use Rattle.std.specs.Prelude.{◌≡◌, ◌+◌, ◌<◌, ◌≤◌, ◌^◌, ℕ, List, length, slice_index_or, slice_set, if◌then◌else◌};
+ghost use Rattle.std.specs.Prelude.{IfOk};
 ghost use Rattle.switch_staged.specs.Rows.{zero_cell};
 ghost use Rattle.switch_staged.specs.Whole.{empty_arrays};
 ghost use Rattle.register_stages.specs.Arrays.{cells_of, place_of};
-ghost use Rattle.switch_staged.specs.Stages.{InReach, PlaceBelow, IsPart, all_cells, array_after, carried, cell_after as cell_left, arrays_after, carried_all};
+ghost use Rattle.switch_staged.specs.Stages.{InReach, PlaceBelow, IsPart, all_cells, array_after, carried};
+ghost use Rattle.switch_staged.specs.Stages.{cell_after as cell_left, arrays_after, carried_all};
 ghost use Rattle.switch_staged.specs.Heads.{writes as is_writing};
 
 use crate::cells::{BODY_CELLS, CELL_LENGTH, Cell};

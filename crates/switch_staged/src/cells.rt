@@ -99,7 +99,8 @@ pub type Cell = [u8; CELL_LENGTH];
 /// The cells of a body.
 pub type Cells = [[u8; CELL_LENGTH]; BODY_CELLS];
 
-ghost use Rattle.std.specs.Prelude.{◌≡◌, ◌+◌, ◌*◌, ◌<◌, ◌≤◌, ◌^◌, ◌++◌, List, ℕ, length, take, drop, replicate, None, Some, true, false, is_some, nat_eq, nat_le, ◌&&◌};
+ghost use Rattle.std.specs.Prelude.{◌≡◌, ◌+◌, ◌*◌, ◌<◌, ◌≤◌, ◌^◌, ◌++◌, List, ℕ, length, take, drop, replicate, None};
+ghost use Rattle.std.specs.Prelude.{Some, true, false, is_some, nat_eq, nat_le, ◌&&◌};
 ghost use Rattle.far_base.specs.Padded.{padded, text_of, shown, length_of, IsPadded};
 ghost use Rattle.far_model.specs.Pass as model;
 ghost use Rattle.far_model.specs.Log as view;

@@ -1,6 +1,7 @@
 //! The packets inside a pipeline.
 ghost use Rattle.std.specs.Prelude.{◌≡◌, ◌+◌, ◌<◌, ◌++◌, length, take, map, slice_set, Some};
-ghost use Rattle.switch_staged.specs.Overlap.{packet_of as packet_in, oldest_first as oldest, in_front, kept, one_packet};
+ghost use Rattle.switch_staged.specs.Overlap.{packet_of as packet_in, oldest_first as oldest, in_front, kept};
+ghost use Rattle.switch_staged.specs.Overlap.{one_packet};
 
 use crate::flight::Flight;
 use crate::pipeline::STAGES;

@@ -39,18 +39,22 @@ impl Model for Pipeline {
 
     ghost Value = { PipelineView };
 
-    ghost view = { λ s. pipeline_view s.config s.gate s.lookup.bound s.heads s.taken s.hot s.bodies.items s.entering s.to_table s.to_heads s.to_taken s.to_bodies.items };
+    ghost view = { λ s. pipeline_view s.config s.gate s.lookup.bound s.heads s.taken s.hot s.bodies.items s.entering
+        s.to_table s.to_heads s.to_taken s.to_bodies.items };
 
-    ghost invariant = { λ s. IsPipeline s.config s.gate s.lookup.bound s.heads s.taken s.hot s.bodies.items s.entering s.to_table s.to_heads s.to_taken s.to_bodies.items };
+    ghost invariant = { λ s. IsPipeline s.config s.gate s.lookup.bound s.heads s.taken s.hot s.bodies.items s.entering
+        s.to_table s.to_heads s.to_taken s.to_bodies.items };
 }
 
-ghost use Rattle.std.specs.Prelude.{◌≡◌, ◌+◌, ◌-◌, ◌<◌, ◌≤◌, ◌^◌, ◌++◌, ◌∷◌, List, [], map, take, length, replicate, slice_set, slice_index_or, is_none, Some, None, IfOk};
+ghost use Rattle.std.specs.Prelude.{◌≡◌, ◌+◌, ◌-◌, ◌<◌, ◌≤◌, ◌^◌, ◌++◌, ◌∷◌, List, [], map, take, length, replicate};
+ghost use Rattle.std.specs.Prelude.{slice_set, slice_index_or, is_none, Some, None, IfOk};
 ghost use Rattle.far_base.specs.Limits.{IsConfig};
 ghost use Rattle.far_base.specs.declared.packet.Packet.{Packet};
 ghost use Rattle.far_model.specs.View.{SwitchView, opening_view, slot_at};
 ghost use Rattle.switch_core.specs.declared.switch.Emit.{Emit};
 ghost use Rattle.switch_staged.specs.Line.{final};
-ghost use Rattle.switch_staged.specs.Overlap.{PipelineView, IsRun, IsInOrder, standing, inside, passed, given, ticked, leaving, answer_of, body_cell, in_front};
+ghost use Rattle.switch_staged.specs.Overlap.{PipelineView, IsRun, IsInOrder, standing, inside, passed, given, ticked};
+ghost use Rattle.switch_staged.specs.Overlap.{leaving, answer_of, body_cell, in_front};
 ghost use Rattle.switch_staged.specs.Pipelined.{opening_pipeline};
 ghost use Rattle.switch_staged.specs.Rows.{zero_cell};
 ghost use Rattle.switch_staged.specs.Stages.{IsPart, all_cells};
@@ -123,7 +127,8 @@ impl Pipeline {
     pub fn enter(&mut self, packet: Packet)
         requires free { self.old.entering ≡ None }
         requires room { self.old.registers.gate.counter + 1 < 2 ^ 64 }
-        ensures run { (start : SwitchView) (entered : List Packet) (answered : List Emit) → IsRun self.old start entered answered → IsRun self.new start (entered ++ packet ∷ []) answered }
+        ensures run { (start : SwitchView) (entered : List Packet) (answered : List Emit) →
+            IsRun self.old start entered answered → IsRun self.new start (entered ++ packet ∷ []) answered }
         ensures standing { standing self.new ≡ slice_set (standing self.old) 0 (Some packet) }
         ensures registers { self.new.registers ≡ self.old.registers }
         ensures config { self.new.config ≡ self.old.config }
@@ -149,10 +154,11 @@ impl Pipeline {
         answer(&self.config, last)
     }
 
-    /// Each packet that is inside passes one stage: all stages work at once. The packet that passed stage 35 leaves, and
-    /// the answer is what leaves the switch with it; `None` exactly where no packet stood before stage 35.
+    /// Each packet that is inside passes one stage: all stages work at once. The packet that passed stage 35 leaves,
+    /// and the answer is what leaves the switch with it; `None` exactly where no packet stood before stage 35.
     pub fn tick(&mut self) -> Option<Emit>
-        ensures run { (start : SwitchView) (entered : List Packet) (answered : List Emit) → IsRun self.old start entered answered → IsRun self.new start entered (answered ++ given result) }
+        ensures run { (start : SwitchView) (entered : List Packet) (answered : List Emit) →
+            IsRun self.old start entered answered → IsRun self.new start entered (answered ++ given result) }
         ensures standing { standing self.new ≡ None ∷ take 35 (standing self.old) }
         ensures none { is_none result ≡ is_none (slice_index_or (standing self.old) 35 None) }
         ensures counter { self.new.registers.gate.counter ≤ self.old.registers.gate.counter + 1 }
@@ -210,7 +216,9 @@ impl Pipeline {
         requires from { 4 ≤ stage }
         requires to { stage < 36 }
         requires slot { slot < self.now.config.slots }
-        ensures { (start : SwitchView) (entered : List Packet) (answered : List Emit) → IsRun self.now start entered answered → result ≡ body_cell (stage - 4) (slot_at (final start (passed stage self.now entered)) slot).body }
+        ensures { (start : SwitchView) (entered : List Packet) (answered : List Emit) →
+            IsRun self.now start entered answered → result ≡ body_cell (stage - 4) (slot_at (final start
+            (passed stage self.now entered)) slot).body }
     {
         cell_in(&self.bodies, self.config.slots, stage as usize - 4, slot)
     }
@@ -243,5 +251,6 @@ fn answer(config: &Config, flight: Option<Flight>) -> Option<Emit>
 /// Overlap changes nothing: the answers so far are the first of those that the packets get one after the other, the
 /// other packets are inside, and with none inside the registers are those of all.
 pub fn overlap_changes_nothing()
-    ensures { (v : PipelineView) (start : SwitchView) (entered : List Packet) (answered : List Emit) → IsRun v start entered answered → IsInOrder v start entered answered }
+    ensures { (v : PipelineView) (start : SwitchView) (entered : List Packet) (answered : List Emit) →
+        IsRun v start entered answered → IsInOrder v start entered answered }
 {}

@@ -1,14 +1,21 @@
 //! The stages before those of the bodies: one function per array.
-ghost use Rattle.std.specs.Prelude.{◌≡◌, ◌+◌, ◌<◌, ◌≤◌, ◌^◌, ℕ, List, Option, length, None, Some, true, false, not, ◌&&◌, nat_eq, nat_lt, if◌then◌else◌};
+ghost use Rattle.std.specs.Prelude.{◌≡◌, ◌+◌, ◌<◌, ◌≤◌, ◌^◌, ℕ, List, Option, length, None, Some, true, false, not};
+ghost use Rattle.std.specs.Prelude.{◌&&◌, nat_eq, nat_lt, if◌then◌else◌};
 ghost use Rattle.far_base.specs.Padded.{text_of};
 ghost use Rattle.far_model.specs.Pass as model;
 ghost use Rattle.far_model.specs.View as view;
 ghost use Rattle.far_model.specs.View.{is_slot_of};
 ghost use Rattle.switch_staged.specs.declared.flight.Act.TheVariants.{Keep, Absorb, Raise, Bind, Clear};
 ghost use Rattle.register_stages.specs.Arrays.{cells_of, place_of};
-ghost use Rattle.switch_staged.specs.Heads.{set_snap as set_snap_to, is_in_reach, gate_after, goes_on as live_at, is_own as own_head, act_for, head_after, empty_head, new_num, new_body, acted as acted_head, bound_head, body_after, cells_of_body as cut_body, bare};
+ghost use Rattle.switch_staged.specs.Heads.{set_snap as set_snap_to, is_in_reach, gate_after, goes_on as live_at};
+ghost use Rattle.switch_staged.specs.Heads.{is_own as own_head, act_for, head_after, empty_head, new_num, new_body};
+ghost use Rattle.switch_staged.specs.Heads.{acted as acted_head, bound_head, body_after, cells_of_body as cut_body};
+ghost use Rattle.switch_staged.specs.Heads.{bare};
 ghost use Rattle.switch_staged.specs.Shapes.{shape_of};
-ghost use Rattle.switch_staged.specs.Stages.{InReach, entered, gate_of, gates_after, headed_with, heads_after, headed, wants_part, head_mark, is_base as base_at, leaves_now as leaves_at, parted_with, taken_after, part_for, changes_record, taken_at_place, parted_at, hots_after, warmed, touch_key, key_touched};
+ghost use Rattle.switch_staged.specs.Stages.{InReach, entered, gate_of, gates_after, headed_with, heads_after, headed};
+ghost use Rattle.switch_staged.specs.Stages.{wants_part, head_mark, is_base as base_at, leaves_now as leaves_at};
+ghost use Rattle.switch_staged.specs.Stages.{parted_with, taken_after, part_for, changes_record, taken_at_place};
+ghost use Rattle.switch_staged.specs.Stages.{parted_at, hots_after, warmed, touch_key, key_touched};
 
 use crate::cells::{Cells, Gate, Head, HotCell, Mark, Shape, Taken};
 use crate::flight::{Act, Flight, Part};

@@ -3,7 +3,9 @@ ghost use Rattle.std.specs.Prelude.{◌≡◌, ◌+◌, ◌<◌, ◌≤◌, ◌^
 ghost use Rattle.std.specs.List.{AllByRecursion};
 ghost use Rattle.register_stages.specs.Arrays.{cells_of, place_of};
 ghost use Rattle.switch_staged.specs.Heads.{gate_after};
-ghost use Rattle.switch_staged.specs.Stages.{InReach, PlaceBelow, IsPart, AdmitsWithin, all_cells, gate_of, entered, table_after, looked_up, heads_after, headed, taken_at_place, parted_at, hots_after, warmed, array_after, carried};
+ghost use Rattle.switch_staged.specs.Stages.{InReach, PlaceBelow, IsPart, AdmitsWithin, all_cells, gate_of, entered};
+ghost use Rattle.switch_staged.specs.Stages.{table_after, looked_up, heads_after, headed, taken_at_place, parted_at};
+ghost use Rattle.switch_staged.specs.Stages.{hots_after, warmed, array_after, carried};
 ghost use Rattle.switch_staged.specs.Overlap.{StaysBelow, kept, sent, stepped, shifted, gone};
 
 use crate::bodies::pass_body;
@@ -79,8 +81,10 @@ pub fn tick_taken(
     requires place { place_of taken.old ≡ 3 }
     requires hot_place { place_of hot.old ≡ 4 }
     ensures taken { cells_of taken.new ≡ kept (λ cells f. taken_at_place cells f.place f) (cells_of taken.old) flight }
-    ensures hot { cells_of hot.new ≡ kept (λ cells f. hots_after config.now cells (parted_at (cells_of taken.old) f.place f)) (cells_of hot.old) flight }
-    ensures flight { result ≡ sent (λ cells f. warmed config.now (cells_of hot.old) (parted_at cells f.place f)) (cells_of taken.old) flight }
+    ensures hot { cells_of hot.new ≡ kept (λ cells f. hots_after config.now cells (parted_at
+        (cells_of taken.old) f.place f)) (cells_of hot.old) flight }
+    ensures flight { result ≡ sent (λ cells f. warmed config.now (cells_of hot.old) (parted_at cells f.place f))
+        (cells_of taken.old) flight }
     ensures place { place_of taken.new ≡ 3 }
     ensures hot_place { place_of hot.new ≡ 4 }
 {
