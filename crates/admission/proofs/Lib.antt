@@ -1,3 +1,2 @@
 pub mod Found
 mod Free
-mod Fronts

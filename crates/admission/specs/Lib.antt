@@ -1,2 +1,1 @@
 pub mod AdmissionView
-pub mod Fronts

@@ -1,7 +1,6 @@
 //! The states of the slots as the controller knows them, the tags of admissions, and the choice of a victim.
 #![tactic(auto)]
 
-mod keys;
 mod places;
 mod slots;
 

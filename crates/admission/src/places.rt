@@ -3,7 +3,6 @@ ghost use Rattle.std.specs.List.{list_any};
 ghost use Rattle.far_model.specs.Evictions as model;
 ghost use Rattle.admission.specs.AdmissionView.{free_in};
 
-use crate::keys::is_same;
 use far_base::{Key, SlotState};
 
 fn is_free(state: &SlotState) -> bool
@@ -32,9 +31,9 @@ fn has_key(state: &SlotState, key: &Key) -> bool
 {
     match state {
         SlotState::Free => false,
-        SlotState::Admitting { key: other, .. } => is_same(other, key),
-        SlotState::Held { key: other, .. } => is_same(other, key),
-        SlotState::Evicting { key: other, .. } => is_same(other, key),
+        SlotState::Admitting { key: other, .. } => other == key,
+        SlotState::Held { key: other, .. } => other == key,
+        SlotState::Evicting { key: other, .. } => other == key,
     }
 }
 
@@ -43,7 +42,7 @@ fn holds_key(state: &SlotState, key: &Key) -> bool
     ensures { result ≡ model.holds_key key.now state.now }
 {
     match state {
-        SlotState::Held { key: other, .. } => is_same(other, key),
+        SlotState::Held { key: other, .. } => other == key,
         _ => false,
     }
 }

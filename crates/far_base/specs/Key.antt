@@ -1,5 +1,6 @@
 -- What a key is made of.
-use Rattle.std.specs.Prelude.{ℕ, zero, suc, ◌+◌, ◌*◌, Bool, true, false, ◌&&◌, nat_le, nat_eq, List, [], ◌∷◌, length}
+use Rattle.std.specs.Prelude.{ℕ, zero, suc, ◌+◌, ◌*◌, Bool, true, false, ◌&&◌, nat_le, nat_eq, List, [], ◌∷◌, length, slice_index}
+use Rattle.std.specs.Int.{from_be_bytes, w64}
 use Rattle.std.specs.List.{list_all}
 use Rattle.far_base.specs.declared.key.TheConstants.{KEY_LENGTH}
 
@@ -38,3 +39,13 @@ key_text (suc b ∷ bs) = suc b ∷ key_text bs
 abbrev pub weighted_sum : ℕ → List ℕ → ℕ
 weighted_sum factor [] = 0
 weighted_sum factor (b ∷ bs) = factor * b + weighted_sum (factor + 1) bs
+
+-- the number that the first eight bytes write, the highest first
+unfoldable pub front_of : List ℕ → ℕ
+front_of key = from_be_bytes w64 (slice_index key 0 ∷ slice_index key 1 ∷ slice_index key 2 ∷ slice_index key 3
+    ∷ slice_index key 4 ∷ slice_index key 5 ∷ slice_index key 6 ∷ slice_index key 7 ∷ [])
+
+-- the number that the last eight bytes write, the highest first
+unfoldable pub back_of : List ℕ → ℕ
+back_of key = from_be_bytes w64 (slice_index key 8 ∷ slice_index key 9 ∷ slice_index key 10 ∷ slice_index key 11
+    ∷ slice_index key 12 ∷ slice_index key 13 ∷ slice_index key 14 ∷ slice_index key 15 ∷ [])

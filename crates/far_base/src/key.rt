@@ -1,4 +1,5 @@
 use crate::front::put_front;
+use std::cmp::Ordering;
 use std::marker::Model;
 
 /// The number of bytes of a key.
@@ -6,7 +7,7 @@ pub const KEY_LENGTH: usize = 16;
 
 /// A key: one to sixteen visible bytes, each from 33 to 126, and then zeros up to sixteen bytes.
 /// Contracts see the sixteen bytes. Keys are ordered by them.
-#[derive(Clone, Copy, Debug, PartialEq, Eq, PartialOrd, Ord, Hash)]
+#[derive(Clone, Copy, Debug)]
 pub struct Key {
     bytes: [u8; KEY_LENGTH],
 }
@@ -24,32 +25,34 @@ impl Model for Key {
     ghost inverse = { λ bytes. record { bytes = bytes } };
 }
 
-ghost use Rattle.std.specs.Prelude.{◌≡◌, ◌+◌, ◌*◌, ◌%◌, ◌≤◌, ◌<◌, ◌↔◌, length, IsTrue, IfSome, IsSome, sum};
+ghost use Rattle.std.specs.Prelude.{◌≡◌, ◌+◌, ◌*◌, ◌%◌, ◌≤◌, ◌<◌, ◌↔◌, length, IsTrue, IfSome, IsSome, Some, sum, nat_eq, refl};
+ghost use Rattle.std.specs.Ordering.{nat_cmp};
+ghost use Rattle.std.specs.Cmp.Lexicographic.{pointwise, slice_cmp, nat_list_eq_equiv, nat_list_cmp_total, texts_ties, texts_po};
+ghost use Rattle.std.specs.Cmp.{partial_equiv_from_equiv};
 ghost use Rattle.std.specs.List.{list_all};
 ghost use Rattle.far_base.specs.Key.{is_key, is_key_text, is_visible, all_zero, visible_then_zeros, key_text};
-ghost use Rattle.far_base.specs.Key.{weighted_sum};
+ghost use Rattle.far_base.specs.Key.{weighted_sum, front_of, back_of};
 ghost use Rattle.far_base.specs.Padded.{padded};
 
-fn are_zeros(bytes: &[u8]) -> bool
-    ensures { result ≡ all_zero bytes.now }
-{
-    bytes.iter().all(|byte| *byte == 0)
-}
-
-fn are_visible_then_zeros(bytes: &[u8]) -> bool
+/// Whether the bytes are visible ones and then zeros. It goes from the last byte to the first, so
+/// that no step depends on where the zeros begin.
+fn are_visible_then_zeros(bytes: &[u8; KEY_LENGTH]) -> bool
     ensures { result ≡ visible_then_zeros bytes.now }
 {
-    let mut rest = bytes;
-    while let [first, after @ ..] = rest {
-        if *first == 0 {
-            return are_zeros(after);
-        }
-        if *first < 33 || *first > 126 {
-            return false;
-        }
-        rest = after;
+    let mut zeros = true;
+    let mut fit = true;
+    let mut at = KEY_LENGTH;
+    while at > 0 {
+        at -= 1;
+        let byte = bytes[at];
+        fit = if byte == 0 {
+            zeros
+        } else {
+            33 <= byte && byte <= 126 && fit
+        };
+        zeros = zeros && byte == 0;
     }
-    true
+    fit
 }
 
 fn in_array(text: &[u8]) -> [u8; KEY_LENGTH]
@@ -142,5 +145,66 @@ impl Key {
             total += (i as u32 + 1) * u32::from(self.bytes[i]);
         }
         total % 256
+    }
+    /// The first eight bytes as one number, the highest first.
+    #[tactic(auto, unfolding(crate::specs::Key::front_of))]
+    fn front(&self) -> u64
+        ensures value { result ≡ front_of self.now }
+        ensures key { IsTrue (is_key self.now) }
+    {
+        let b = &self.bytes;
+        u64::from_be_bytes([b[0], b[1], b[2], b[3], b[4], b[5], b[6], b[7]])
+    }
+
+    /// The last eight bytes as one number, the highest first.
+    #[tactic(auto, unfolding(crate::specs::Key::back_of))]
+    fn back(&self) -> u64
+        ensures { result ≡ back_of self.now }
+    {
+        let b = &self.bytes;
+        u64::from_be_bytes([b[8], b[9], b[10], b[11], b[12], b[13], b[14], b[15]])
+    }
+}
+
+// Keys are compared by their halves as numbers: that is what their bytes say, in fewer steps.
+impl PartialEq for Key {
+    ghost eq = { pointwise nat_eq };
+
+    ghost laws = { partial_equiv_from_equiv nat_list_eq_equiv };
+
+    #[tactic(auto, using(crate::proofs::Fronts::other_front))]
+    fn eq(&self, other: &Key) -> bool {
+        self.front() == other.front() && self.back() == other.back()
+    }
+}
+
+impl Eq for Key {
+    ghost laws = { nat_list_eq_equiv };
+}
+
+impl PartialOrd for Key {
+    ghost partial_cmp = { λ x y. Some (slice_cmp nat_cmp x y) };
+
+    ghost laws = { texts_po };
+
+    fn partial_cmp(&self, other: &Key) -> Option<Ordering> {
+        Some(self.cmp(other))
+    }
+}
+
+impl Ord for Key {
+    ghost cmp = { slice_cmp nat_cmp };
+
+    ghost total = { nat_list_cmp_total };
+
+    ghost matches_partial_cmp = { λ x y. refl };
+
+    ghost matches_eq = { texts_ties };
+
+    #[tactic(auto, using(crate::proofs::Fronts::ordered_halves))]
+    fn cmp(&self, other: &Key) -> Ordering {
+        self.front()
+            .cmp(&other.front())
+            .then(self.back().cmp(&other.back()))
     }
 }

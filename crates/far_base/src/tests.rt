@@ -33,3 +33,15 @@ fn bodies_end_at_their_limit(rt: HostRuntime) -> Result<(), Fail> {
     assert!(rt; Body::absent().text().is_empty());
     Ok(())
 }
+
+#[test]
+fn keys_are_ordered_by_their_bytes(rt: HostRuntime) -> Result<(), Fail> {
+    let texts: [&[u8]; 5] = [b"a", b"aa", b"abcdefgh", b"abcdefgha", b"b"];
+    for (i, first) in texts.iter().enumerate() {
+        for (j, second) in texts.iter().enumerate() {
+            assert_eq!(rt; key_of(first)? < key_of(second)?, i < j);
+            assert_eq!(rt; key_of(first)? == key_of(second)?, i == j);
+        }
+    }
+    Ok(())
+}

@@ -4,4 +4,3 @@ pub mod Drops
 pub mod Adds
 pub mod Places
 pub mod Unique
-mod Fronts

@@ -1,4 +1,3 @@
 pub mod Table
 pub mod Binding
 pub mod Sound
-pub mod Fronts

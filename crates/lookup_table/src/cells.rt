@@ -6,7 +6,6 @@ ghost use Rattle.far_model.specs.View.{is_key_there};
 ghost use Rattle.lookup_table.specs.Binding.{slot_at, closed_up};
 ghost use Rattle.lookup_table.specs.Table.{bucket_count, bucket_cells, is_of_bucket, has_key, key_at};
 
-use crate::keys::is_same;
 use crate::place::BUCKET_CELLS;
 use far_base::Key;
 
@@ -32,7 +31,7 @@ pub(crate) fn is_key_at(keys: &[Option<Key>], slot: u32, key: &Key) -> bool
     ensures { result ≡ is_key_there key.now (key_at keys.now slot) }
 {
     match keys.get(slot as usize) {
-        Some(Some(found)) => is_same(key, found),
+        Some(Some(found)) => key == found,
         _ => false,
     }
 }

@@ -2,7 +2,6 @@
 #![tactic(auto)]
 
 mod cells;
-mod keys;
 mod lookup;
 mod place;
 

@@ -1,9 +1,15 @@
-use Rattle.std.proofs.Common.{◌≡◌, length}
-use Rattle.far_base.specs.Key.{visible_then_zeros}
+use Rattle.std.proofs.Common.{◌≡◌, ◌≤◌, drop}
+use Rattle.far_base.specs.Key.{all_zero, visible_then_zeros}
+use Rattle.far_base.specs.declared.key.TheConstants.{KEY_LENGTH}
 use Rattle.far_base.proofs.key.are_visible_then_zeros.Given as goal
 
-abbrev pub invariant-loop-rest : goal.invariant-loop-rest
-invariant-loop-rest l = visible_then_zeros l.rest ≡ visible_then_zeros l.bytes
+-- what was found of the bytes from here on
+abbrev pub invariant-loop-at : goal.invariant-loop-at
+invariant-loop-at l = record {
+  within : l.at ≤ KEY_LENGTH;
+  zeros : l.zeros ≡ all_zero (drop l.at l.bytes);
+  fit : l.fit ≡ visible_then_zeros (drop l.at l.bytes);
+}
 
-abbrev pub decreases-loop-rest : goal.decreases-loop-rest
-decreases-loop-rest l = length l.rest
+abbrev pub decreases-loop-at : goal.decreases-loop-at
+decreases-loop-at l = l.at
