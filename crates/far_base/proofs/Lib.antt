@@ -1,3 +1,4 @@
+pub mod Bodies
 pub mod Fronts
 pub mod Keys
 pub mod Padding

@@ -9,6 +9,7 @@ mod kept;
 mod key;
 mod log;
 mod memory;
+mod ops;
 mod packet;
 mod party;
 mod plan;
@@ -21,6 +22,7 @@ pub use kept::{KeptItem, KeptPlace};
 pub use key::{KEY_LENGTH, Key};
 pub use log::{LogEntry, LogLine, Placed};
 pub use memory::Memory;
+pub use ops::Ops;
 pub use packet::{Message, Out, Packet};
 pub use party::Party;
 pub use plan::{

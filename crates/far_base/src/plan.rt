@@ -1,5 +1,6 @@
 use crate::body::Body;
 use crate::key::Key;
+use crate::ops::Ops;
 use std::marker::Model;
 
 /// The greatest number of clients; there is at least one.
@@ -85,7 +86,7 @@ pub struct Config {
 #[derive(Drop)]
 pub struct Plan {
     pub config: Config,
-    pub ops: Vec<OpLine>,
+    pub ops: Ops,
     pub orders: Vec<Order>,
 }
 
@@ -94,5 +95,5 @@ impl Model for Plan {
 
     ghost Value = { PlanView };
 
-    ghost view = { λ p. record { config = p.config; ops = p.ops.items; orders = p.orders.items } };
+    ghost view = { λ p. record { config = p.config; ops = p.ops; orders = p.orders.items } };
 }

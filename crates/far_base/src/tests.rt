@@ -45,3 +45,32 @@ fn keys_are_ordered_by_their_bytes(rt: HostRuntime) -> Result<(), Fail> {
     }
     Ok(())
 }
+
+#[test]
+fn operations_are_read_as_they_were_put(rt: HostRuntime) -> Result<(), Fail> {
+    let alloc = rt.alloc();
+    let mut ops = Ops::new(alloc);
+    let bodies = [
+        Body::absent(),
+        Body::from_bytes(b"v1").ok_or("no body")?,
+        Body::from_bytes(b"").ok_or("no body")?,
+        Body::from_bytes(&[120; BODY_LIMIT]).ok_or("no body")?,
+    ];
+    for (i, body) in bodies.iter().enumerate() {
+        let line = OpLine {
+            client: i as u32,
+            op: Op::Put,
+            key: key_of(b"k17")?,
+            body: *body,
+        };
+        ops.push(&line).map_err(|_| "no memory")?;
+    }
+    let copy = ops.copied(alloc).map_err(|_| "no memory")?;
+    assert_eq!(rt; copy.len(), 4);
+    for (i, body) in bodies.iter().enumerate() {
+        assert_eq!(rt; copy.client(i), i as u32);
+        assert!(rt; ops.line(i).body == *body);
+        assert!(rt; copy.line(i) == ops.line(i));
+    }
+    Ok(())
+}
