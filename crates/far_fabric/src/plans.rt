@@ -1,19 +1,17 @@
 ghost use Rattle.std.specs.Prelude.{◌≡◌, IsTrue, IfOk};
 
-use far_base::{Body, Memory, OpLine, Order, Plan};
+use far_base::{Body, Memory, OpLine, Ops, Order, Plan};
 use std::alloc::Global;
 
 /// A plan of its own that is the same.
 pub(crate) fn copied(alloc: Global, plan: &Plan) -> Result<Plan, Memory>
     ensures { IfOk result (λ copy. copy ≡ plan.now) }
 {
-    let mut ops = Vec::new(alloc);
-    ops.extend_from_slice(&plan.ops)?;
     let mut orders = Vec::new(alloc);
     orders.extend_from_slice(&plan.orders)?;
     Ok(Plan {
         config: plan.config,
-        ops,
+        ops: plan.ops.copied(alloc)?,
         orders,
     })
 }
@@ -34,14 +32,14 @@ fn same_line(one: &OpLine, other: &OpLine) -> bool
         && same_body(&one.body, &other.body)
 }
 
-fn same_ops(one: &[OpLine], other: &[OpLine]) -> bool
+fn same_ops(one: &Ops, other: &Ops) -> bool
     ensures { IsTrue result → one.now ≡ other.now }
 {
     if one.len() != other.len() {
         return false;
     }
     for i in 0..one.len() {
-        if !same_line(&one[i], &other[i]) {
+        if !same_line(&one.line(i), &other.line(i)) {
             return false;
         }
     }

@@ -1,7 +1,8 @@
 -- Laws of what clients have to send.
-use Rattle.std.proofs.Common.{◌≡◌, ℕ, zero, suc, ◌+◌, ◌-◌, ◌<◌, inl, inr, List, [], ◌∷◌, ◌++◌, length, get_or, drop, take, max, refl, sym, ap, ◌∙◌, subst, cond, ◌≤◌, Bool, true, false, Option, Some, None, arith, drop-cons}
+use Rattle.std.proofs.Common.{◌≡◌, ℕ, zero, suc, ◌+◌, ◌-◌, ◌<◌, inl, inr, List, [], ◌∷◌, ◌++◌, length, get_or, drop, take, max, refl, sym, ap, ◌∙◌, subst, cond, ◌≤◌, Bool, true, false, Option, Some, None, arith, drop-cons, append_assoc}
 use Rattle.std.specs.Prelude.{nat_lt, nat_le, nat_eq, is_some, is_none, slice_get, IsTrue, not, ◌&&◌, if◌then◌else◌}
 use Rattle.far_base.specs.declared.plan.OpLine.{OpLine}
+use Rattle.far_base.proofs.Taken.{left}
 use Rattle.far_model.specs.Clients.{ClientState, line_of, no_line, request, script, script_from, opening_client, tells, tells_each}
 use Rattle.far_model.specs.Events.{can_send, has_next, next_sent}
 use Rattle.far_model.specs.Members.{Among}
@@ -34,9 +35,12 @@ pub is_done_is : (waits : Option (ℕ × OpLine)) (i : ℕ) (xs : List ℕ) → 
 is_done_is None i xs h = not_less i (length xs) ∙ ap not (has_next_drop i xs)
 is_done_is (Some w) i xs h = absurd cc
 
--- the senders from a line on
-pub senders_more : (i : ℕ) (ops : List OpLine) (d : OpLine) → i < length ops → senders (drop i ops) ≡ (get_or ops i d).client ∷ senders (drop (suc i) ops)
-senders_more i ops d h = rw (drop-cons ops i d h) refl
+-- one sender more
+pub senders_more : (i client : ℕ) (ops : List OpLine) (old all : List ℕ) → slice_get (senders ops) i ≡ Some client → all ≡ old ++ client ∷ []
+    → old ++ drop i (senders ops) ≡ senders ops → all ++ drop (i + 1) (senders ops) ≡ senders ops
+senders_more i client ops old all e m h =
+    ap (λ (xs : List ℕ). xs ++ drop (i + 1) (senders ops)) m ∙ append_assoc old (client ∷ []) (drop (i + 1) (senders ops))
+    ∙ ap (λ (xs : List ℕ). old ++ xs) (sym (left (senders ops) i client e)) ∙ h
 
 -- the numbers from a sender on
 pub numbers_more : (i client : ℕ) (senders : List ℕ) (d : ℕ) → i < length senders
@@ -131,13 +135,3 @@ length_tells_each round client total (r ∷ rs) = ap suc (length_tells_each roun
 pub length_tells : (round client : ℕ) (rs : List Record) → length (tells round client rs) ≡ max (length rs) 1
 length_tells round client [] = refl
 length_tells round client (r ∷ rs) = omega (arith, length_tells_each round client (length (r ∷ rs)) (r ∷ rs))
-
-pub take_on : {A : Type 0} → (xs : List A) (i : ℕ) (x : A) → slice_get xs i ≡ Some x → take (i + 1) xs ≡ take i xs ++ x ∷ []
-take_on [] i x h = absurd cc
-take_on (y ∷ ys) zero x h = ap (λ z. z ∷ []) (same_Some _ _ h)
-take_on (y ∷ ys) (suc i) x h = let e : suc i + 1 ≡ suc (i + 1) = omega arith in rw e (ap (λ zs. y ∷ zs) (take_on ys i x h))
-
--- a body that is there is its text
-pub text_is_body : (body : Option (List ℕ)) → is_some body ≡ true → Some (text_of body) ≡ body
-text_is_body None h = absurd cc
-text_is_body (Some text) h = refl

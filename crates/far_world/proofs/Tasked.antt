@@ -16,7 +16,7 @@ use Rattle.far_model.specs.Evictions.{Eviction, Next, Send, Store, Done, Kept, a
 use Rattle.far_model.specs.Parties.{Turn, idle, to_party}
 use Rattle.far_model.specs.Rounds.{Round, asks_tops, has_told, telling_at}
 use Rattle.far_model.specs.Snapshots.{Job, completed, has_begun, has_part, is_whole, part_reads, view_in, view_items, view_records, with_part, with_same}
-use Rattle.far_world.proofs.Scripts.{take_on}
+use Rattle.far_base.proofs.Taken.{taken}
 use Rattle.far_world.specs.Tasks.{FitsConfig, IsSmall, task_turn, tick_turn}
 use Rattle.far_world.specs.declared.tasks.Task.{Task}
 use Rattle.far_world.specs.declared.tasks.Task.TheVariants.{Take, Tick, Recover, Want, Evict, Snap}
@@ -229,12 +229,12 @@ items_append i (None ∷ xs) ys = let e : i + suc (length xs) ≡ suc i + length
 items_append i (Some x ∷ xs) ys = let e : i + suc (length xs) ≡ suc i + length xs = omega arith in rw e (ap (λ (es : List LogEntry). SnapItem i x ∷ es) (items_append (suc i) xs ys))
 
 pub records_on : (xs : List (Option Record)) (i : ℕ) (x : Option Record) → slice_get xs i ≡ Some x → view_records (take (i + 1) xs) ≡ view_records (take i xs) ++ view_records (x ∷ [])
-records_on xs i x h = rw (take_on xs i x h) (records_append (take i xs) (x ∷ []))
+records_on xs i x h = rw (taken xs i x h) (records_append (take i xs) (x ∷ []))
 
 pub items_on : (xs : List (Option Record)) (i : ℕ) (x : Option Record) → i < length xs → slice_get xs i ≡ Some x → view_items 0 (take (i + 1) xs) ≡ view_items 0 (take i xs) ++ view_items i (x ∷ [])
 items_on xs i x less h =
     let n : 0 + length (take i xs) ≡ i = omega (arith, length-take i xs) in
-    rw (take_on xs i x h, items_append 0 (take i xs) (x ∷ []), n) refl
+    rw (taken xs i x h, items_append 0 (take i xs) (x ∷ []), n) refl
 
 pub there_is : {A : Type 0} → (xs : List A) (i : ℕ) (x : A) → i < length xs → x ≡ get_or xs i x → slice_get xs i ≡ Some x
 there_is [] i x less e = absurd (omega arith)

@@ -30,7 +30,7 @@ ghost use Rattle.far_world.specs.Seats.{IsAnswerOf, IsExpected, IsSeated, TakesT
 ghost use Rattle.far_base.specs.declared.plan.OpLine.{OpLine};
 
 /// The operations of a plan.
-pub(crate) fn ops_of(plan: &Plan) -> &[OpLine]
+pub(crate) fn ops_of(plan: &Plan) -> &Ops
     ensures { result.now ≡ plan.now.ops }
 {
     &plan.ops
@@ -45,12 +45,12 @@ pub(crate) fn config_of(plan: &Plan) -> Config
 
 /// Who sends each operation.
 #[tactic(auto, using(crate::proofs::Scripts::senders_more))]
-pub(crate) fn senders_of(alloc: Global, ops: &[OpLine]) -> Result<Vec<u32>, Memory>
+pub(crate) fn senders_of(alloc: Global, ops: &Ops) -> Result<Vec<u32>, Memory>
     ensures { IfOk result (λ all. all.items ≡ senders ops.now) }
 {
     let mut all = Vec::new(alloc);
-    for line in ops {
-        all.push(line.client).map_err(|_| Memory)?;
+    for place in 0..ops.len() {
+        all.push(ops.client(place)).map_err(|_| Memory)?;
     }
     Ok(all)
 }
@@ -138,7 +138,7 @@ impl Seat {
     }
 
     /// Sends the next operation. At an error nothing is changed.
-    pub(crate) fn send_next(&mut self, ops: &[OpLine], turn: &mut Turn) -> Result<(), Memory>
+    pub(crate) fn send_next(&mut self, ops: &Ops, turn: &mut Turn) -> Result<(), Memory>
         requires seated { IsSeated ops.now self.old.number self.old }
         requires ops { length ops.now ≤ OP_LIMIT }
         requires can { IsTrue (events.can_send self.old.state) }
@@ -149,7 +149,7 @@ impl Seat {
         ensures err { OnErr result (self.new ≡ self.old) }
     {
         let op = self.script[self.next];
-        let line = short_copy(&ops[op as usize - 1]);
+        let line = ops.line(op as usize - 1);
         let packet = self.client.send(op, &line)?;
         self.next += 1;
         turn.send(Party::Switch, packet);

@@ -7,7 +7,7 @@ ghost use Rattle.far_world.specs.Scene.{keeper_of};
 ghost use Rattle.run_main.specs.Saying.{IsRunFault, fault_status};
 
 use crate::status::Status;
-use far_base::Plan;
+use far_base::{Ops, Plan};
 use far_outside::Keeper;
 use far_world::{Halted, World};
 use server_keeper::StepFault;
@@ -54,7 +54,7 @@ pub(crate) fn parted(alloc: Global, load: Workload) -> (Plan, Workload)
     } = load;
     let nothing = Plan {
         config: plan.config,
-        ops: Vec::new(alloc),
+        ops: Ops::new(alloc),
         orders: Vec::new(alloc),
     };
     let rest = Workload {

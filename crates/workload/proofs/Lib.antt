@@ -11,6 +11,7 @@ pub mod FormLaws
 pub mod LineLaws
 pub mod HeadLaws
 pub mod StepLaws
+pub mod Taken
 pub mod ReadingLaws
 pub mod PrintedLaws
 pub mod FaultLaws

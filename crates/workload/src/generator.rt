@@ -5,7 +5,7 @@ ghost use Rattle.workload.specs.Draws.{ops_from, seeded, orders_by, generated};
 ghost use Rattle.workload.specs.Plain.{IsPlain};
 
 use crate::load::Workload;
-use far_base::{Body, Config, Key, Memory, Op, OpLine, Order, Plan};
+use far_base::{Body, Config, Key, Memory, Op, OpLine, Ops, Order, Plan};
 use far_text::{put_number, put_text};
 use rand_core::SeedableRng;
 use rand_core::utils::NextWord;
@@ -111,23 +111,16 @@ fn op_line(alloc: Global, choice: Choice, number: u32) -> Result<OpLine, Memory>
     })
 }
 
-fn push_line(lines: &mut Vec<OpLine>, line: OpLine) -> Result<(), Memory>
-    ensures { IfOk result (λ _. lines.new.items ≡ lines.old.items ++ line ∷ []) }
-{
-    lines.push(line).map_err(|_| Memory)?;
-    Ok(())
-}
-
 #[tactic(auto, unfolding(crate::specs::Draws::seeded))]
-fn ops_of(alloc: Global, start: u64, ops: u32) -> Result<Vec<OpLine>, Memory>
-    ensures { IfOk result (λ lines. lines.items ≡ ops_from 1 ops (seeded start)) }
+fn ops_of(alloc: Global, start: u64, ops: u32) -> Result<Ops, Memory>
+    ensures { IfOk result (λ lines. lines ≡ ops_from 1 ops (seeded start)) }
 {
     let mut rng = Lcg64Xsh32::seed_from_u64(start);
-    let mut lines = Vec::new(alloc);
+    let mut lines = Ops::new(alloc);
     for i in 0..ops {
         let choice = next_choice(&mut rng);
         let line = op_line(alloc, choice, i + 1)?;
-        push_line(&mut lines, line)?;
+        lines.push(&line)?;
     }
     Ok(lines)
 }

@@ -1,4 +1,4 @@
-use far_base::{Config, Plan};
+use far_base::{Config, Ops, Plan};
 use std::alloc::Global;
 use std::marker::Model;
 
@@ -36,7 +36,7 @@ impl Workload {
         Workload {
             plan: Plan {
                 config,
-                ops: Vec::new(alloc),
+                ops: Ops::new(alloc),
                 orders: Vec::new(alloc),
             },
             picks: Vec::new(alloc),

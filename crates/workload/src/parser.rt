@@ -113,13 +113,16 @@ fn join_picks(picks: &mut Vec<u64>, number: u32, words: &[u8]) -> Result<(), Wor
 }
 
 impl Workload {
-    fn push_op(&mut self, number: u32, line: OpLine) -> Result<(), WorkFault>
-        ensures { Gives (λ _. self.new) result (op_counted number self.old line) }
+    fn push_op(&mut self, number: u32, line: &OpLine) -> Result<(), WorkFault>
+        ensures { Gives (λ _. self.new) result (op_counted number self.old line.now) }
     {
         if self.plan.ops.len() >= OP_LIMIT as usize {
             return Err(WorkFault::TooLarge(Limit::Ops, number));
         }
-        self.plan.ops.push(line)?;
+        self.plan
+            .ops
+            .push(line)
+            .map_err(|_refused| WorkFault::Memory)?;
         Ok(())
     }
 
@@ -135,7 +138,7 @@ impl Workload {
         };
         self.push_op(
             number,
-            OpLine {
+            &OpLine {
                 client,
                 op,
                 key,
@@ -158,7 +161,7 @@ impl Workload {
         };
         self.push_op(
             number,
-            OpLine {
+            &OpLine {
                 client,
                 op: Op::Put,
                 key,

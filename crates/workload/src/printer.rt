@@ -15,7 +15,7 @@ ghost use Rattle.workload.specs.Rows.{pick_text, next_place};
 ghost use Rattle.workload.specs.declared.printer.TheConstants.{PICKS_PER_LINE};
 
 use crate::load::Workload;
-use far_base::{Body, Config, Key, Memory, Op, OpLine, Order, PassKind};
+use far_base::{Body, Config, Key, Memory, Op, OpLine, Ops, Order, PassKind};
 use far_text::{put_body, put_key, put_number, put_text};
 use std::alloc::Global;
 
@@ -131,12 +131,12 @@ fn put_order(out: &mut Vec<u8>, order: &Order) -> Result<(), Memory>
     put_text(out, b"\n")
 }
 
-fn put_ops(out: &mut Vec<u8>, ops: &[OpLine]) -> Result<(), Memory>
+fn put_ops(out: &mut Vec<u8>, ops: &Ops) -> Result<(), Memory>
     ensures text { IfOk result (λ _. out.new.items ≡ out.old.items ++ lines_text (map OfOp ops.now)) }
     ensures whole { IfOk result (λ _. AllByRecursion IsWholeOp ops.now) }
 {
-    for line in ops {
-        put_op(out, line)?;
+    for place in 0..ops.len() {
+        put_op(out, &ops.line(place))?;
     }
     Ok(())
 }

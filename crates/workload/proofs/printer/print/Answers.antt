@@ -6,8 +6,8 @@ use Rattle.workload.proofs.printer.print.Goals as goal
 
 pub returns : goal.returns
 returns c =
-    let text : c.put_random.new.out.items ≡ spelling c.args.load.now = all_parts c.args.load.now _ c.deref.result.now c.deref-2.result.now c.deref-3.result.now _ _ _ _ _ _ _ (search rules) (search rules) (search rules) (search rules) (search rules) c.new-out.ensures.items c.in_ok-put_head.ensures c.in_ok-put_ops.ensures.text c.in_ok-put_orders.ensures.text c.in_ok-put_picks.ensures c.in_ok-put_random.ensures in
+    let text : c.put_random.new.out.items ≡ spelling c.args.load.now = all_parts c.args.load.now _ _ c.deref.result.now c.deref-2.result.now _ _ _ _ _ _ _ (search rules) (search rules) (search rules) (search rules) (search rules) c.new-out.ensures.items c.in_ok-put_head.ensures c.in_ok-put_ops.ensures.text c.in_ok-put_orders.ensures.text c.in_ok-put_picks.ensures c.in_ok-put_random.ensures in
     record {
       text = text;
-      reads = text_reads c.put_random.new.out.items c.args.load.now c.deref.result.now c.deref-2.result.now text c.requires (search rules) (search rules) c.in_ok-put_ops.ensures.whole c.in_ok-put_orders.ensures.whole;
+      reads = text_reads c.put_random.new.out.items c.args.load.now _ c.deref.result.now text c.requires (search rules) (search rules) c.in_ok-put_ops.ensures.whole c.in_ok-put_orders.ensures.whole;
     }

@@ -5,7 +5,8 @@ use Rattle.far_base.specs.declared.packet.Out.{Out}
 use Rattle.far_base.specs.declared.party.Party.TheVariants.{Controller}
 use Rattle.far_model.specs.Clients.{tells}
 use Rattle.far_model.specs.Parties.{to_party}
-use Rattle.far_world.proofs.Scripts.{length_tells, take_on}
+use Rattle.far_world.proofs.Scripts.{length_tells}
+use Rattle.far_base.proofs.Taken.{taken}
 use Rattle.far_world.specs.Seats.{SeatView}
 use Rattle.far_world.proofs.seat.Seat.take_ask.Goals as goal
 
@@ -15,7 +16,7 @@ loop-i-preserved c =
     let there : slice_get told c.loop-i.i ≡ Some (to_party Controller c.tell-packet.result) =
     subst (λ (s : SeatView). slice_get (tells c.args.round s.number s.state.preserved) c.loop-i.i ≡ Some (to_party Controller c.tell-packet.result)) c.self.view_is c.tell-packet.ensures in
     record {
-      out = rw (c.send.ensures.out, c.loop-i.invariant.out, take_on told c.loop-i.i (to_party Controller c.tell-packet.result) there) (append_assoc c.args.turn.now.out.items (take c.loop-i.i told) (to_party Controller c.tell-packet.result ∷ []));
+      out = rw (c.send.ensures.out, c.loop-i.invariant.out, taken told c.loop-i.i (to_party Controller c.tell-packet.result) there) (append_assoc c.args.turn.now.out.items (take c.loop-i.i told) (to_party Controller c.tell-packet.result ∷ []));
       notes = c.send.ensures.notes ∙ c.loop-i.invariant.notes;
       room = c.send.ensures.room ∙ c.loop-i.invariant.room;
     }
