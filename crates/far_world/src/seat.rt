@@ -150,9 +150,8 @@ impl Seat {
     {
         let op = self.script[self.next];
         let line = short_copy(&ops[op as usize - 1]);
-        let packet = self.client.send(op, &line)?;
+        self.client.send(op, &line, &mut turn.out)?;
         self.next += 1;
-        turn.send(Party::Switch, packet);
         turn.note(LogEntry::Sent { op, line });
         Ok(())
     }
@@ -178,7 +177,7 @@ impl Seat {
     {
         for i in 0..self.most_sent() {
             let packet = self.client.tell(round, i as u32);
-            turn.send(Party::Controller, packet);
+            turn.send(Party::Controller, &packet);
         }
     }
 

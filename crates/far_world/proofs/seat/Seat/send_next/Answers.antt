@@ -1,5 +1,6 @@
 use Rattle.std.proofs.Common.{◌+◌, not, refl, subst, arith}
 use Rattle.std.specs.Prelude.{is_some}
+use Rattle.far_model.specs.Clients.{request}
 use Rattle.far_model.specs.Events.{next_sent}
 use Rattle.far_world.specs.Seats.{SeatView, TakesTurn, seat_of}
 use Rattle.far_world.proofs.Scripts.{next_is, sends_next}
@@ -21,6 +22,6 @@ bounds-ops-op c =
 pub returns-clause-ok : goal.returns-clause-ok
 returns-clause-ok c =
     subst (λ (self : SeatView). TakesTurn c.args.ops.now self c.args.turn.now (next_sent c.args.ops.now self.number self.state self.state.left) (seat_of c.send.new.self (c.self.inside.next + 1) c.self.inside.script.items) c.note.new.self) c.self.view_is
-    (sends_next c.args.ops.now c.self.inside.client c.send.new.self c.self.inside.script.items c.self.inside.next c.requires.seated.sent c.index-op.result.now c.short_copy-line.result c.in_ok-packet.packet c.args.turn.now c.note.new.self
+    (sends_next c.args.ops.now c.self.inside.client c.send.new.self c.self.inside.script.items c.self.inside.next c.requires.seated.sent c.index-op.result.now c.short_copy-line.result (request c.self.inside.client.number c.index-op.result.now c.short_copy-line.result) c.args.turn.now c.note.new.self
     c.index-op.ensures (rw (← c.self.view_is) at c.requires.can) (rw (← c.self.view_is) at c.requires.seated.left) (rw c.short_copy-line.ensures c.index-ops-op.is)
-    c.in_ok-packet.ensures.waits c.in_ok-packet.ensures.packet (rw (c.note.ensures.out, c.send-2.ensures.out) refl) (rw (c.note.ensures.notes, c.send-2.ensures.notes) refl))
+    c.in_ok-send.ensures.waits refl (rw c.note.ensures.out c.in_ok-send.ensures.packet) c.note.ensures.notes)
