@@ -1,5 +1,5 @@
 use crate::records::{drop_up_to, put};
-use far_base::{Memory, Op, OpLine, Packet, Record};
+use far_base::{Memory, Op, OpLine, Out, Packet, Party, Record};
 use std::alloc::Global;
 use std::marker::Model;
 
@@ -29,11 +29,45 @@ impl Model for Client {
     ghost invariant = { λ c. HasRoom c.open (vec_len c.preserved) (vec_capacity c.preserved) };
 }
 
-ghost use Rattle.std.specs.Prelude.{◌≡◌, ◌^◌, ◌<◌, max, length, [], None, Some, slice_get, is_none, IfOk, OnOk, OnErr};
-ghost use Rattle.far_base.specs.declared.party.Party.TheVariants.{Controller};
+ghost use Rattle.std.specs.Prelude.{◌≡◌, ◌^◌, ◌<◌, ◌++◌, ◌∷◌, max, length, [], None, Some, slice_get, is_none};
+ghost use Rattle.std.specs.Prelude.{vec_len, vec_capacity, OnOk, OnErr};
+ghost use Rattle.far_base.specs.declared.party.Party.TheVariants.{Controller, Switch as TheSwitch};
 ghost use Rattle.far_model.specs.Clients as model;
 ghost use Rattle.far_model.specs.Parties.{to_party};
 ghost use Rattle.client_records.specs.ClientView.{ClientView, IsAnswer, open_op, state_of, seen_as, after_answer};
+
+/// Puts a copy of the item behind the others, for which there is room.
+fn put_last<T: Copy>(items: &mut Vec<T>, item: &T)
+    requires { vec_len items.old < vec_capacity items.old }
+    ensures { items.new.items ≡ items.old.items ++ item.now ∷ [] }
+{
+    items.push_reserved(*item);
+}
+
+/// Puts what the operation asks the switch behind what is sent, for which there is room.
+fn ask(caller: u32, op: u32, line: &OpLine, out: &mut Vec<Out>)
+    requires { vec_len out.old < vec_capacity out.old }
+    ensures { out.new.items ≡ out.old.items ++ to_party TheSwitch (model.request caller op line.now) ∷ [] }
+{
+    let to = Party::Switch;
+    let key = line.key;
+    match line.op {
+        Op::Get => {
+            let packet = Packet::GetReq { caller, op, key };
+            put_last(out, &Out { to, packet });
+        }
+        Op::Put | Op::Del => {
+            let body = line.body;
+            let packet = Packet::WriteReq {
+                caller,
+                op,
+                key,
+                body,
+            };
+            put_last(out, &Out { to, packet });
+        }
+    }
+}
 
 impl Client {
     /// A client that waits for nothing and preserves nothing.
@@ -62,27 +96,21 @@ impl Client {
         &self.preserved
     }
 
-    /// Opens operation `op` and answers what it asks the switch. It makes room for the record that the answer may
-    /// have preserved; where memory is refused the client stays as it was.
-    pub fn send(&mut self, op: u32, line: &OpLine) -> Result<Packet, Memory>
-        requires { self.old.waits ≡ None }
-        ensures packet { IfOk result (λ packet. packet ≡ model.request self.old.number op line.now) }
+    /// Opens operation `op`, and puts what it asks the switch behind what is sent, for which there is room. It makes
+    /// room for the record that the answer may have preserved; where memory is refused nothing is changed.
+    pub fn send(&mut self, op: u32, line: &OpLine, out: &mut Vec<Out>) -> Result<(), Memory>
+        requires idle { self.old.waits ≡ None }
+        requires room { vec_len out.old < vec_capacity out.old }
+        ensures packet { OnOk result (out.new.items ≡ out.old.items
+            ++ to_party TheSwitch (model.request self.old.number op line.now) ∷ []) }
         ensures waits { OnOk result (self.new ≡ record self.old { waits = Some (op, line.now) }) }
         ensures unchanged { OnErr result (self.new ≡ self.old) }
+        ensures unsent { OnErr result (out.new ≡ out.old) }
     {
         self.preserved.reserve(1)?;
         self.open = Some((op, *line));
-        let caller = self.number;
-        let key = line.key;
-        Ok(match line.op {
-            Op::Get => Packet::GetReq { caller, op, key },
-            Op::Put | Op::Del => Packet::WriteReq {
-                caller,
-                op,
-                key,
-                body: line.body,
-            },
-        })
+        ask(self.number, op, line, out);
+        Ok(())
     }
 
     /// Closes the open operation, whose number is the answer. A write that only the switch has, above the released
@@ -92,19 +120,16 @@ impl Client {
         ensures op { Some result ≡ open_op self.old.waits }
         ensures client { self.new ≡ after_answer self.old packet.now }
     {
-        let Some((op, line)) = self.open.take() else {
+        let Some((op, line)) = &self.open else {
             unreachable!()
         };
-        if let Packet::WriteAns { num, kept, .. } = *packet {
-            if kept && self.released < num {
-                let rec = Record {
-                    key: line.key,
-                    num,
-                    body: line.body,
-                };
-                put(&mut self.preserved, rec);
+        let op = *op;
+        if let Packet::WriteAns { num, kept, .. } = packet {
+            if *kept && self.released < *num {
+                put(&mut self.preserved, line, *num);
             }
         }
+        self.open = None;
         op
     }
 

@@ -3,7 +3,7 @@ ghost use Rattle.std.specs.List.{filter};
 ghost use Rattle.far_model.specs.KeyedRecords.{put_record};
 ghost use Rattle.client_records.specs.ClientView.{is_above, IsPlace};
 
-use far_base::{Key, Record};
+use far_base::{Key, OpLine, Record};
 
 /// The place of the record of the key, or the number of records where there is none.
 fn place_of(records: &[Record], key: &Key) -> usize
@@ -17,12 +17,18 @@ fn place_of(records: &[Record], key: &Key) -> usize
     records.len()
 }
 
-/// The record takes the place of that of its key, or goes last, for which there is room.
-pub(crate) fn put(records: &mut Vec<Record>, rec: Record)
+/// The line's record under the number takes the place of that of its key, or goes last, for which there is room.
+pub(crate) fn put(records: &mut Vec<Record>, line: &OpLine, num: u64)
     requires { vec_len records.old < vec_capacity records.old }
-    ensures { records.new.items ≡ put_record rec records.old.items }
+    ensures { records.new.items ≡ put_record (record { key = line.now.key; num = num; body = line.now.body })
+        records.old.items }
 {
-    let place = place_of(records, &rec.key);
+    let rec = Record {
+        key: line.key,
+        num,
+        body: line.body,
+    };
+    let place = place_of(records, &line.key);
     if place < records.len() {
         records[place] = rec;
     } else {

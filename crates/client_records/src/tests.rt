@@ -1,8 +1,9 @@
 use super::*;
 use far_base::{Body, Key, Op, OpLine, Packet};
+use std::alloc::Global;
 use std::test::Fail;
 
-fn write(client: &mut Client, text: &[u8], num: u64) -> Result<(), Fail> {
+fn write(alloc: Global, client: &mut Client, text: &[u8], num: u64) -> Result<(), Fail> {
     let line = OpLine {
         client: 3,
         op: Op::Del,
@@ -12,7 +13,9 @@ fn write(client: &mut Client, text: &[u8], num: u64) -> Result<(), Fail> {
     if !client.is_idle() {
         return Err("not idle")?;
     }
-    client.send(1, &line).map_err(|_| "no memory")?;
+    let mut out = Vec::new(alloc);
+    out.reserve(1)?;
+    client.send(1, &line, &mut out).map_err(|_| "no memory")?;
     client.answered(&Packet::WriteAns {
         caller: 3,
         op: 1,
@@ -26,13 +29,13 @@ fn write(client: &mut Client, text: &[u8], num: u64) -> Result<(), Fail> {
 #[test]
 fn a_key_that_comes_again_goes_last(rt: HostRuntime) -> Result<(), Fail> {
     let mut client = Client::new(rt.alloc(), 3);
-    write(&mut client, b"a", 1)?;
-    write(&mut client, b"b", 5)?;
-    write(&mut client, b"c", 6)?;
-    write(&mut client, b"b", 7)?;
+    write(rt.alloc(), &mut client, b"a", 1)?;
+    write(rt.alloc(), &mut client, b"b", 5)?;
+    write(rt.alloc(), &mut client, b"c", 6)?;
+    write(rt.alloc(), &mut client, b"b", 7)?;
     client.released(4);
-    write(&mut client, b"a", 8)?;
-    write(&mut client, b"d", 3)?;
+    write(rt.alloc(), &mut client, b"a", 8)?;
+    write(rt.alloc(), &mut client, b"d", 3)?;
     let mut nums = Vec::new(rt.alloc());
     for record in client.preserved() {
         nums.push(record.num)?;

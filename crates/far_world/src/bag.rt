@@ -1,5 +1,5 @@
-use far_base::{Memory, Message, Out, Party};
-use packet_codec::decode;
+use far_base::{Memory, Out, Packet, Party};
+use packet_codec::{BadPacket, decode};
 use std::alloc::Global;
 use std::marker::Model;
 
@@ -21,7 +21,7 @@ impl Model for Bag {
 }
 
 ghost use Rattle.std.specs.Prelude.{◌≡◌, ◌+◌, ◌-◌, ◌^◌, ◌<◌, ◌≤◌, ◌++◌, ◌&&◌, not, [], ◌∷◌, length, remove, take};
-ghost use Rattle.std.specs.Prelude.{slice_get, slice_index_or, Some, OnOk};
+ghost use Rattle.std.specs.Prelude.{slice_index_or, Ok, OnOk};
 ghost use Rattle.std.specs.List.{count_by, list_any};
 ghost use Rattle.far_base.specs.declared.packet.Message.{Message};
 ghost use Rattle.far_model.specs.Events.{can_deliver, is_switch};
@@ -71,20 +71,13 @@ impl Bag {
         self.wires.put(from, out.to, &out.packet);
     }
 
-    /// The message at the place, read from its bytes.
-    pub(crate) fn at(&self, place: u32) -> Message
+    /// What the message at the place says, read from its bytes.
+    pub(crate) fn packet_at(&self, place: u32) -> Result<Packet, BadPacket>
         requires { place < length self.now.messages }
-        ensures { slice_get self.now.messages place ≡ Some result }
+        ensures { result ≡ Ok (slice_index_or self.now.messages place nothing_sent).packet }
     {
-        let (from, to, wire) = self.wires.at(place);
-        match decode(wire.bytes()) {
-            Ok(packet) => Message {
-                from: *from,
-                to: *to,
-                packet,
-            },
-            Err(_) => unreachable!(),
-        }
+        let (_, _, wire) = self.wires.at(place);
+        decode(wire.bytes())
     }
 
     /// To whom the message at the place goes.

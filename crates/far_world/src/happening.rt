@@ -145,6 +145,24 @@ impl<S: Switch + Drop, K: Keeper + Drop> Parties<S, K> {
         }
     }
 
+    /// The message at the place is taken out and handled by its addressee.
+    fn deliver_to(&mut self, place: u32, to: Party, packet: &Packet) -> Result<(), StepFault>
+        requires stands { Stands self.old }
+        requires there { (from : Party) × (slice_get self.old.state.bag place ≡ Some
+            (record { from = from; to = to; packet = packet.now })) }
+        ensures ok { OnOk result (IsAfter self.old (Event.Deliver place) self.new) }
+        ensures err { OnErr result (self.new ≡ with_faults self.old self.new.keeper.faults) }
+        ensures later { self.old.keeper.faults ≤ self.new.keeper.faults }
+        ensures cause { IsErrOf result StepFault.KeeperFailed → Rose self.old.keeper.faults self.new.keeper.faults }
+    {
+        match to {
+            Party::Server(number) => self.deliver_to_server(place, number, packet),
+            Party::Client(_) => self.deliver_calmly(place, to, packet),
+            Party::Switch => self.deliver_calmly(place, to, packet),
+            Party::Controller => self.deliver_calmly(place, to, packet),
+        }
+    }
+
     /// The message at the place is taken out, and its addressee handles it.
     fn deliver(&mut self, place: u32) -> Result<(), StepFault>
         requires stands { Stands self.old }
@@ -154,14 +172,10 @@ impl<S: Switch + Drop, K: Keeper + Drop> Parties<S, K> {
         ensures later { self.old.keeper.faults ≤ self.new.keeper.faults }
         ensures cause { IsErrOf result StepFault.KeeperFailed → Rose self.old.keeper.faults self.new.keeper.faults }
     {
-        let message = self.bag.at(place);
-        match message.to {
-            Party::Server(number) => self.deliver_to_server(place, number, &message.packet),
-            Party::Client(number) => {
-                self.deliver_calmly(place, Party::Client(number), &message.packet)
-            }
-            Party::Switch => self.deliver_calmly(place, Party::Switch, &message.packet),
-            Party::Controller => self.deliver_calmly(place, Party::Controller, &message.packet),
+        let to = self.bag.addressee(place);
+        match &self.bag.packet_at(place) {
+            Ok(packet) => self.deliver_to(place, to, packet),
+            Err(_) => unreachable!(),
         }
     }
 

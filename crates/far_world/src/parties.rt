@@ -145,8 +145,10 @@ impl<S: Switch + Drop, K: Keeper + Drop> Parties<S, K> {
         make_room(&mut self.bag, &mut self.log, &mut self.turn, 1, 0).map_err(
             |_| StepFault::Memory,
         )?;
-        let reply = server_step(&mut self.keeper, number, packet)?;
-        self.turn.send(recipient(&reply), reply);
+        match &server_step(&mut self.keeper, number, packet) {
+            Ok(reply) => self.turn.send(recipient(reply), reply),
+            Err(cause) => return Err(*cause),
+        }
         post(
             &mut self.bag,
             &mut self.log,

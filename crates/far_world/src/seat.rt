@@ -1,6 +1,6 @@
 use crate::turn::Turn;
 use client_records::Client;
-use far_base::{Body, Config, LogEntry, Memory, OpLine, Packet, Party, Plan, Record};
+use far_base::{Config, LogEntry, Memory, Ops, Packet, Party, Plan, Record};
 use std::alloc::Global;
 use std::marker::Model;
 
@@ -70,32 +70,6 @@ fn script_of(alloc: Global, senders: &[u32], client: u32) -> Result<Vec<u32>, Me
     Ok(script)
 }
 
-/// The same body. Of its place in memory only the bytes that it has are read.
-#[tactic(auto, using(crate::proofs::Scripts::text_is_body))]
-fn body_of(body: &Body) -> Body
-    ensures { result ≡ body.now }
-{
-    if !body.is_present() {
-        return Body::absent();
-    }
-    match Body::from_bytes(body.text()) {
-        Some(body) => body,
-        None => unreachable!(),
-    }
-}
-
-/// The same line of the plan: most of a long plan lies far away, and its bodies are short.
-fn short_copy(line: &OpLine) -> OpLine
-    ensures { result ≡ line.now }
-{
-    OpLine {
-        client: line.client,
-        op: line.op,
-        key: line.key,
-        body: body_of(&line.body),
-    }
-}
-
 impl Seat {
     /// A client that has sent nothing, of the operations that these clients send.
     pub(crate) fn new(alloc: Global, senders: &[u32], number: u32) -> Result<Self, Memory>
@@ -150,9 +124,8 @@ impl Seat {
     {
         let op = self.script[self.next];
         let line = ops.line(op as usize - 1);
-        let packet = self.client.send(op, &line)?;
+        self.client.send(op, &line, &mut turn.out)?;
         self.next += 1;
-        turn.send(Party::Switch, packet);
         turn.note(LogEntry::Sent { op, line });
         Ok(())
     }
@@ -178,7 +151,7 @@ impl Seat {
     {
         for i in 0..self.most_sent() {
             let packet = self.client.tell(round, i as u32);
-            turn.send(Party::Controller, packet);
+            turn.send(Party::Controller, &packet);
         }
     }
 

@@ -150,12 +150,12 @@ pub(crate) fn do_task(
         (task_turn controller.old.config controller.old.state task.now).notes) }
     ensures err { OnErr result (controller.new ≡ controller.old) }
 {
-    match *task {
-        Task::Take(packet) => take(controller, &packet, turn),
+    match task {
+        Task::Take(packet) => take(controller, packet, turn),
         Task::Tick => controller.tick(&mut turn.out),
         Task::Recover => controller.start_recovery(&mut turn.out),
-        Task::Want(key) => controller.want(key),
-        Task::Evict(key) => controller.evict_key(&key, &mut turn.out),
+        Task::Want(key) => controller.want(*key),
+        Task::Evict(key) => controller.evict_key(key, &mut turn.out),
         Task::Snap => controller.start_snapshot(&mut turn.out),
     }
 }

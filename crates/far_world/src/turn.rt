@@ -1,6 +1,6 @@
 ghost use Rattle.std.specs.Prelude.{◌≡◌, ◌+◌, ◌-◌, ◌^◌, ◌<◌, ◌≤◌, ◌++◌, [], ◌∷◌, length, vec_len, vec_capacity};
 ghost use Rattle.std.specs.Prelude.{option_to_list, OnOk};
-ghost use Rattle.far_model.specs.Parties.{messages_from};
+ghost use Rattle.far_model.specs.Parties.{messages_from, to_party};
 ghost use Rattle.far_model.specs.Pass.{outs_of};
 ghost use Rattle.far_world.specs.Steps.{Logs};
 
@@ -49,13 +49,19 @@ impl Turn {
     }
 
     /// Sends a packet, for which there is room.
-    pub(crate) fn send(&mut self, to: Party, packet: Packet)
+    pub(crate) fn send(&mut self, to: Party, packet: &Packet)
         requires { vec_len self.old.out < vec_capacity self.old.out }
-        ensures out { self.new.out.items ≡ self.old.out.items ++ record { to = to; packet = packet } ∷ [] }
+        ensures out { self.new.out.items ≡ self.old.out.items ++ to_party to packet.now ∷ [] }
         ensures notes { self.new.notes ≡ self.old.notes }
         ensures room { vec_capacity self.new.out ≡ vec_capacity self.old.out }
     {
-        put_last(&mut self.out, &Out { to, packet });
+        put_last(
+            &mut self.out,
+            &Out {
+                to,
+                packet: *packet,
+            },
+        );
     }
 
     /// Sends a packet where there is one, for which there is room.

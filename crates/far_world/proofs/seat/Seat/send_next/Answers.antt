@@ -1,5 +1,7 @@
-use Rattle.std.proofs.Common.{◌+◌, not, refl, subst, arith}
+use Rattle.std.proofs.Common.{◌+◌, ◌-◌, not, refl, subst, arith}
 use Rattle.std.specs.Prelude.{is_some}
+use Rattle.far_base.proofs.Taken.{got}
+use Rattle.far_model.specs.Clients.{request}
 use Rattle.far_model.specs.Events.{next_sent}
 use Rattle.far_world.specs.Seats.{SeatView, TakesTurn, seat_of}
 use Rattle.far_world.proofs.Scripts.{next_is, sends_next}
@@ -12,8 +14,8 @@ overflow_sub-op c =
     c.index-op.ensures (rw (← c.self.view_is) at c.requires.can) (rw (← c.self.view_is) at c.requires.seated.left) in
     omega (arith, h.least)
 
-pub bounds-ops-op : goal.bounds-ops-op
-bounds-ops-op c =
+pub line-line-requires : goal.line-line-requires
+line-line-requires c =
     let h = next_is c.args.ops.now c.self.inside.client.number c.self.inside.script.items c.self.inside.next c.requires.seated.sent c.index-op.result.now (not (is_some (open_op c.self.inside.client.waits)))
     c.index-op.ensures (rw (← c.self.view_is) at c.requires.can) (rw (← c.self.view_is) at c.requires.seated.left) in
     omega (arith, h.least, h.most)
@@ -21,6 +23,6 @@ bounds-ops-op c =
 pub returns-clause-ok : goal.returns-clause-ok
 returns-clause-ok c =
     subst (λ (self : SeatView). TakesTurn c.args.ops.now self c.args.turn.now (next_sent c.args.ops.now self.number self.state self.state.left) (seat_of c.send.new.self (c.self.inside.next + 1) c.self.inside.script.items) c.note.new.self) c.self.view_is
-    (sends_next c.args.ops.now c.self.inside.client c.send.new.self c.self.inside.script.items c.self.inside.next c.requires.seated.sent c.index-op.result.now c.short_copy-line.result c.in_ok-packet.packet c.args.turn.now c.note.new.self
-    c.index-op.ensures (rw (← c.self.view_is) at c.requires.can) (rw (← c.self.view_is) at c.requires.seated.left) (rw c.short_copy-line.ensures c.index-ops-op.is)
-    c.in_ok-packet.ensures.waits c.in_ok-packet.ensures.packet (rw (c.note.ensures.out, c.send-2.ensures.out) refl) (rw (c.note.ensures.notes, c.send-2.ensures.notes) refl))
+    (sends_next c.args.ops.now c.self.inside.client c.send.new.self c.self.inside.script.items c.self.inside.next c.requires.seated.sent c.index-op.result.now c.line-line.result (request c.self.inside.client.number c.index-op.result.now c.line-line.result) c.args.turn.now c.note.new.self
+    c.index-op.ensures (rw (← c.self.view_is) at c.requires.can) (rw (← c.self.view_is) at c.requires.seated.left) (got c.args.ops.now (c.index-op.result.now - 1) c.line-line.result c.line-line.ensures)
+    c.in_ok-send.ensures.waits refl (rw c.note.ensures.out c.in_ok-send.ensures.packet) c.note.ensures.notes)
