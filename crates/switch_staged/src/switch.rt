@@ -74,10 +74,10 @@ impl StagedSwitch {
         pass_taken(&mut self.taken, &mut token, &mut flight);
         pass_hot(&mut self.hot, &mut token, &self.config, &mut flight);
         pass_bodies(&mut self.bodies, &mut token, self.config.slots, &mut flight);
-        Emit {
-            first: flight.first_out(&self.config),
-            second: flight.second_out(),
-        }
+        let mut emit = Emit::none();
+        flight.put_first(&self.config, &mut emit.first);
+        flight.put_second(&mut emit.second);
+        emit
     }
 }
 

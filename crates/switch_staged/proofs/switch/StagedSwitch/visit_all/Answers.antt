@@ -47,7 +47,7 @@ pub returns-clause-view : goal.returns-clause-view
 returns-clause-view c = ap (λ (x : Passed). x.view) (run_is c.self.inside.config (registers c.self.inside.gate c.self.inside.lookup.bound c.self.inside.heads c.self.inside.taken c.self.inside.hot c.self.inside.bodies.items) (registers c.pass_gate-flight.new.gates c.pass_table.new.lookup.bound c.pass_heads.new.heads c.pass_taken.new.cells c.pass_hot.new.cells c.pass_bodies.new.arrays.items) c.args.packet.now c.pass_gate-flight.result c.pass_table.new.flight c.pass_heads.new.flight c.pass_taken.new.flight c.pass_hot.new.flight c.pass_bodies.new.flight (ap gate_of c.pass_gate-flight.ensures.gate ∙ gate_is_set (cells_of c.self.inside.gate) _ c.self.invariant.one) c.pass_gate-flight.ensures.flight c.pass_table.ensures.table c.pass_table.ensures.flight c.pass_heads.ensures.heads c.pass_heads.ensures.flight c.pass_taken.ensures.cells c.pass_taken.ensures.flight c.pass_hot.ensures.cells c.pass_hot.ensures.flight c.pass_bodies.ensures.cells c.pass_bodies.ensures.flight ∙ staged_is_pass c.self.inside.config (registers c.self.inside.gate c.self.inside.lookup.bound c.self.inside.heads c.self.inside.taken c.self.inside.hot c.self.inside.bodies.items) c.args.packet.now c.self.invariant.fits c.pass_gate-flight.ensures.short) ∙ ap (λ v. (pass v c.args.packet.now).view) c.self.view_is
 
 pub returns-clause-first : goal.returns-clause-first
-returns-clause-first c = c.first_out.ensures ∙ ap (λ (x : Passed). x.first) (run_is c.self.inside.config (registers c.self.inside.gate c.self.inside.lookup.bound c.self.inside.heads c.self.inside.taken c.self.inside.hot c.self.inside.bodies.items) (registers c.pass_gate-flight.new.gates c.pass_table.new.lookup.bound c.pass_heads.new.heads c.pass_taken.new.cells c.pass_hot.new.cells c.pass_bodies.new.arrays.items) c.args.packet.now c.pass_gate-flight.result c.pass_table.new.flight c.pass_heads.new.flight c.pass_taken.new.flight c.pass_hot.new.flight c.pass_bodies.new.flight (ap gate_of c.pass_gate-flight.ensures.gate ∙ gate_is_set (cells_of c.self.inside.gate) _ c.self.invariant.one) c.pass_gate-flight.ensures.flight c.pass_table.ensures.table c.pass_table.ensures.flight c.pass_heads.ensures.heads c.pass_heads.ensures.flight c.pass_taken.ensures.cells c.pass_taken.ensures.flight c.pass_hot.ensures.cells c.pass_hot.ensures.flight c.pass_bodies.ensures.cells c.pass_bodies.ensures.flight ∙ staged_is_pass c.self.inside.config (registers c.self.inside.gate c.self.inside.lookup.bound c.self.inside.heads c.self.inside.taken c.self.inside.hot c.self.inside.bodies.items) c.args.packet.now c.self.invariant.fits c.pass_gate-flight.ensures.short) ∙ ap (λ v. (pass v c.args.packet.now).first) c.self.view_is
+returns-clause-first c = c.put_first.ensures ∙ ap (λ (x : Passed). x.first) (run_is c.self.inside.config (registers c.self.inside.gate c.self.inside.lookup.bound c.self.inside.heads c.self.inside.taken c.self.inside.hot c.self.inside.bodies.items) (registers c.pass_gate-flight.new.gates c.pass_table.new.lookup.bound c.pass_heads.new.heads c.pass_taken.new.cells c.pass_hot.new.cells c.pass_bodies.new.arrays.items) c.args.packet.now c.pass_gate-flight.result c.pass_table.new.flight c.pass_heads.new.flight c.pass_taken.new.flight c.pass_hot.new.flight c.pass_bodies.new.flight (ap gate_of c.pass_gate-flight.ensures.gate ∙ gate_is_set (cells_of c.self.inside.gate) _ c.self.invariant.one) c.pass_gate-flight.ensures.flight c.pass_table.ensures.table c.pass_table.ensures.flight c.pass_heads.ensures.heads c.pass_heads.ensures.flight c.pass_taken.ensures.cells c.pass_taken.ensures.flight c.pass_hot.ensures.cells c.pass_hot.ensures.flight c.pass_bodies.ensures.cells c.pass_bodies.ensures.flight ∙ staged_is_pass c.self.inside.config (registers c.self.inside.gate c.self.inside.lookup.bound c.self.inside.heads c.self.inside.taken c.self.inside.hot c.self.inside.bodies.items) c.args.packet.now c.self.invariant.fits c.pass_gate-flight.ensures.short) ∙ ap (λ v. (pass v c.args.packet.now).first) c.self.view_is
 
 pub returns-clause-second : goal.returns-clause-second
-returns-clause-second c = c.second_out.ensures ∙ ap (λ (x : Passed). x.second) (run_is c.self.inside.config (registers c.self.inside.gate c.self.inside.lookup.bound c.self.inside.heads c.self.inside.taken c.self.inside.hot c.self.inside.bodies.items) (registers c.pass_gate-flight.new.gates c.pass_table.new.lookup.bound c.pass_heads.new.heads c.pass_taken.new.cells c.pass_hot.new.cells c.pass_bodies.new.arrays.items) c.args.packet.now c.pass_gate-flight.result c.pass_table.new.flight c.pass_heads.new.flight c.pass_taken.new.flight c.pass_hot.new.flight c.pass_bodies.new.flight (ap gate_of c.pass_gate-flight.ensures.gate ∙ gate_is_set (cells_of c.self.inside.gate) _ c.self.invariant.one) c.pass_gate-flight.ensures.flight c.pass_table.ensures.table c.pass_table.ensures.flight c.pass_heads.ensures.heads c.pass_heads.ensures.flight c.pass_taken.ensures.cells c.pass_taken.ensures.flight c.pass_hot.ensures.cells c.pass_hot.ensures.flight c.pass_bodies.ensures.cells c.pass_bodies.ensures.flight ∙ staged_is_pass c.self.inside.config (registers c.self.inside.gate c.self.inside.lookup.bound c.self.inside.heads c.self.inside.taken c.self.inside.hot c.self.inside.bodies.items) c.args.packet.now c.self.invariant.fits c.pass_gate-flight.ensures.short) ∙ ap (λ v. (pass v c.args.packet.now).second) c.self.view_is
+returns-clause-second c = c.put_second.ensures ∙ ap (λ (x : Passed). x.second) (run_is c.self.inside.config (registers c.self.inside.gate c.self.inside.lookup.bound c.self.inside.heads c.self.inside.taken c.self.inside.hot c.self.inside.bodies.items) (registers c.pass_gate-flight.new.gates c.pass_table.new.lookup.bound c.pass_heads.new.heads c.pass_taken.new.cells c.pass_hot.new.cells c.pass_bodies.new.arrays.items) c.args.packet.now c.pass_gate-flight.result c.pass_table.new.flight c.pass_heads.new.flight c.pass_taken.new.flight c.pass_hot.new.flight c.pass_bodies.new.flight (ap gate_of c.pass_gate-flight.ensures.gate ∙ gate_is_set (cells_of c.self.inside.gate) _ c.self.invariant.one) c.pass_gate-flight.ensures.flight c.pass_table.ensures.table c.pass_table.ensures.flight c.pass_heads.ensures.heads c.pass_heads.ensures.flight c.pass_taken.ensures.cells c.pass_taken.ensures.flight c.pass_hot.ensures.cells c.pass_hot.ensures.flight c.pass_bodies.ensures.cells c.pass_bodies.ensures.flight ∙ staged_is_pass c.self.inside.config (registers c.self.inside.gate c.self.inside.lookup.bound c.self.inside.heads c.self.inside.taken c.self.inside.hot c.self.inside.bodies.items) c.args.packet.now c.self.invariant.fits c.pass_gate-flight.ensures.short) ∙ ap (λ v. (pass v c.args.packet.now).second) c.self.view_is
