@@ -1,5 +1,4 @@
 ghost use Rattle.std.specs.Prelude.{◌≡◌, ℕ, ◌+◌, ◌^◌, ◌<◌, ◌≤◌, ◌++◌, slice_index, vec_len, vec_capacity, IfSome};
-ghost use Rattle.std.specs.Prelude.{option_to_list};
 ghost use Rattle.far_model.specs.Pass as model;
 ghost use Rattle.far_model.specs.Pass.{emitted_note, emitted_notes};
 ghost use Rattle.far_model.specs.Passes as counts;
@@ -9,40 +8,52 @@ use crate::turn::Turn;
 use far_base::{Body, LogEntry, Out, Packet};
 use switch_core::Switch;
 
-/// The number that a write of this operation got, where the packet that left for it has one.
-fn number_in(op: u32, packet: &Packet) -> Option<LogEntry>
-    ensures { option_to_list result ≡ number_note op packet.now }
+/// Notes the number that a write of this operation got, where the packet that left for it has one.
+fn note_number(op: u32, packet: &Packet, turn: &mut Turn)
+    requires { vec_len turn.old.notes < vec_capacity turn.old.notes }
+    ensures notes { turn.new.notes.items ≡ turn.old.notes.items ++ number_note op packet.now }
+    ensures few { vec_len turn.new.notes ≤ vec_len turn.old.notes + 1 }
+    ensures out { turn.new.out ≡ turn.old.out }
+    ensures room { vec_capacity turn.new.notes ≡ vec_capacity turn.old.notes }
 {
     match packet {
-        Packet::WriteFwd { num, .. } => Some(LogEntry::Numbered { op, num: *num }),
-        Packet::WriteAns { num, .. } => Some(LogEntry::Numbered { op, num: *num }),
-        _ => None,
+        Packet::WriteFwd { num, .. } => turn.note(LogEntry::Numbered { op, num: *num }),
+        Packet::WriteAns { num, .. } => turn.note(LogEntry::Numbered { op, num: *num }),
+        _ => {}
     }
 }
 
-/// The number that a write got. It stands in the first packet that left.
-fn number_of(op: u32, first: &Option<Out>) -> Option<LogEntry>
-    ensures { option_to_list result ≡ number_noted op first.now }
+/// Notes the number that a write got. It stands in the first packet that left.
+fn note_number_of(op: u32, first: &Option<Out>, turn: &mut Turn)
+    requires { vec_len turn.old.notes < vec_capacity turn.old.notes }
+    ensures notes { turn.new.notes.items ≡ turn.old.notes.items ++ number_noted op first.now }
+    ensures few { vec_len turn.new.notes ≤ vec_len turn.old.notes + 1 }
+    ensures out { turn.new.out ≡ turn.old.out }
+    ensures room { vec_capacity turn.new.notes ≡ vec_capacity turn.old.notes }
 {
-    match first {
-        Some(out) => number_in(op, &out.packet),
-        None => None,
+    if let Some(out) = first {
+        note_number(op, &out.packet, turn);
     }
 }
 
-/// The number that the packet, where it is a write, got.
-fn numbered(packet: &Packet, first: &Option<Out>) -> Option<LogEntry>
-    ensures { option_to_list result ≡ numbered_by packet.now first.now }
+/// Notes the number that the packet, where it is a write, got.
+fn note_numbered(packet: &Packet, first: &Option<Out>, turn: &mut Turn)
+    requires { vec_len turn.old.notes < vec_capacity turn.old.notes }
+    ensures notes { turn.new.notes.items ≡ turn.old.notes.items ++ numbered_by packet.now first.now }
+    ensures few { vec_len turn.new.notes ≤ vec_len turn.old.notes + 1 }
+    ensures out { turn.new.out ≡ turn.old.out }
+    ensures room { vec_capacity turn.new.notes ≡ vec_capacity turn.old.notes }
 {
-    match packet {
-        Packet::WriteReq { op, .. } => number_of(*op, first),
-        _ => None,
+    if let Packet::WriteReq { op, .. } = packet {
+        note_number_of(*op, first, turn);
     }
 }
 
-/// The answer that a packet is, where it is one.
-fn answer(packet: &Packet) -> Option<LogEntry>
-    ensures { option_to_list result ≡ emitted_note packet.now }
+/// Notes the answer that a packet is, where it is one.
+fn note_answer(packet: &Packet, turn: &mut Turn)
+    requires { vec_len turn.old.notes < vec_capacity turn.old.notes }
+    ensures notes { turn.new.notes.items ≡ turn.old.notes.items ++ emitted_note packet.now }
+    ensures out { turn.new.out ≡ turn.old.out }
 {
     match packet {
         Packet::GetAns {
@@ -51,29 +62,30 @@ fn answer(packet: &Packet) -> Option<LogEntry>
             body,
             near,
             ..
-        } => Some(LogEntry::Emitted {
+        } => turn.note(LogEntry::Emitted {
             op: *op,
             num: *num,
             body: *body,
             near: *near,
         }),
-        Packet::WriteAns { op, num, kept, .. } => Some(LogEntry::Emitted {
+        Packet::WriteAns { op, num, kept, .. } => turn.note(LogEntry::Emitted {
             op: *op,
             num: *num,
             body: Body::absent(),
             near: *kept,
         }),
-        _ => None,
+        _ => {}
     }
 }
 
-/// The answer that left.
-fn emitted(first: &Option<Out>) -> Option<LogEntry>
-    ensures { option_to_list result ≡ emitted_notes first.now }
+/// Notes the answer that left.
+fn note_emitted(first: &Option<Out>, turn: &mut Turn)
+    requires { vec_len turn.old.notes < vec_capacity turn.old.notes }
+    ensures notes { turn.new.notes.items ≡ turn.old.notes.items ++ emitted_notes first.now }
+    ensures out { turn.new.out ≡ turn.old.out }
 {
-    match first {
-        Some(out) => answer(&out.packet),
-        None => None,
+    if let Some(out) = first {
+        note_answer(&out.packet, turn);
     }
 }
 
@@ -121,6 +133,6 @@ pub(crate) fn pass_through<S: Switch>(switch: &mut S, packet: &Packet, turn: &mu
     let emit = switch.pass(packet);
     turn.send_if(&emit.first);
     turn.send_if(&emit.second);
-    turn.note_if(&numbered(packet, &emit.first));
-    turn.note_if(&emitted(&emit.first));
+    note_numbered(packet, &emit.first, turn);
+    note_emitted(&emit.first, turn);
 }

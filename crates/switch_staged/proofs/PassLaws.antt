@@ -47,6 +47,10 @@ pub carry_place : (place : Option ℕ) (at : ℕ) (array : List (List ℕ)) (f :
 carry_place None at array f = refl
 carry_place (Some i) at array f = refl
 
+pub carry_act : (place : Option ℕ) (at : ℕ) (array : List (List ℕ)) (f : Flight) → (carry_at place at array f).act ≡ f.act
+carry_act None at array f = refl
+carry_act (Some i) at array f = refl
+
 pub get_map : (arrays : List (RegArray (List ℕ))) (k : ℕ) (d : RegArray (List ℕ)) → k < length arrays → slice_index_or (all_cells arrays) k [] ≡ cells_of (slice_index_or arrays k d)
 get_map [] k d b = absurd (omega (arith, b))
 get_map (a ∷ rest) zero d b = refl

@@ -32,6 +32,20 @@ gate_of gates = slice_index_or gates 0 closed_gate
 abbrev pub gates_after : List Gate → Packet → List Gate
 gates_after gates packet = slice_set gates 0 (gate_after (gate_of gates) packet)
 
+-- a packet that has passed no stage
+abbrev pub waiting : Packet → Flight
+waiting packet = record {
+  packet = packet;
+  live = false;
+  gate = closed_gate;
+  place = None;
+  found = empty_head;
+  act = Keep;
+  part = Stays;
+  hot = false;
+  cells = replicate BODY_CELLS zero_cell;
+}
+
 abbrev pub entered : Config → Gate → Packet → Flight
 entered config g packet = record {
   packet = packet;

@@ -1,6 +1,6 @@
 //! The stages of the bodies.
 ghost use Rattle.std.specs.Prelude.{◌≡◌, ◌+◌, ◌<◌, ◌≤◌, ◌^◌, ℕ, List, length, slice_index_or, slice_set, if◌then◌else◌};
-ghost use Rattle.std.specs.Prelude.{IfOk};
+ghost use Rattle.std.specs.Prelude.{IfOk, Some};
 ghost use Rattle.switch_staged.specs.Rows.{zero_cell};
 ghost use Rattle.switch_staged.specs.Whole.{empty_arrays};
 ghost use Rattle.register_stages.specs.Arrays.{cells_of, place_of};
@@ -29,15 +29,12 @@ impl Act {
 impl Flight {
     /// The cell that stage `at` of the body leaves.
     #[tactic(auto, unfolding(crate::specs::Stages::cell_after))]
-    fn cell_after(&self, at: usize, old: Cell) -> Cell
-        requires { at < 32 }
+    fn cell_after(&self, at: usize, writes: bool, old: Cell) -> Cell
+        requires at { at < 32 }
+        requires writes { writes ≡ is_writing self.now.act }
         ensures { result ≡ cell_left at self.now old }
     {
-        if self.act.writes() {
-            self.cells[at]
-        } else {
-            old
-        }
+        if writes { self.cells[at] } else { old }
     }
 }
 
@@ -47,10 +44,12 @@ fn visit_body(
     token: &mut PassToken,
     at: usize,
     place: u32,
+    writes: bool,
     flight: &Flight,
 ) -> Cell
     requires cell { place < length (cells_of array.old) }
     requires at { at < 32 }
+    requires writes { writes ≡ is_writing flight.now.act }
     requires token { token.old ≤ place_of array.old }
     requires place { place_of array.old + 1 < 2 ^ 32 }
     ensures cells { cells_of array.new ≡ slice_set (cells_of array.old) place
@@ -63,10 +62,35 @@ fn visit_body(
         token,
         place,
         |cell|
-            requires { at < 32 }
+            requires at { at < 32 }
+            requires writes { writes ≡ is_writing flight.now.act }
             ensures { result ≡ cell_left at flight.entry.now cell }
-        { flight.cell_after(at, cell) },
+        { flight.cell_after(at, writes, cell) },
     )
+}
+
+/// Stage `at` of the body, where the flight goes to this slot.
+fn pass_cell(
+    array: &mut RegArray<Cell>,
+    token: &mut PassToken,
+    at: usize,
+    place: u32,
+    writes: bool,
+    flight: &mut Flight,
+)
+    requires goes { flight.old.place ≡ Some place }
+    requires writes { writes ≡ is_writing flight.old.act }
+    requires cell { place < length (cells_of array.old) }
+    requires at { at < 32 }
+    requires token { token.old ≤ place_of array.old }
+    requires place { place_of array.old + 1 < 2 ^ 32 }
+    ensures cells { cells_of array.new ≡ array_after at (cells_of array.old) flight.old }
+    ensures flight { flight.new ≡ carried at (cells_of array.old) flight.old }
+    ensures token { token.new ≤ place_of array.old + 1 }
+    ensures place { place_of array.new ≡ place_of array.old }
+{
+    let old = visit_body(array, token, at, place, writes, flight);
+    flight.cells[at] = old;
 }
 
 /// Stage `at` of the body, counted from 0.
@@ -83,18 +107,20 @@ pub fn pass_body(array: &mut RegArray<Cell>, token: &mut PassToken, at: usize, f
     let Some(place) = flight.place else {
         return;
     };
-    let old = visit_body(array, token, at, place, flight);
-    flight.cells[at] = old;
+    let writes = flight.act.writes();
+    pass_cell(array, token, at, place, writes, flight);
 }
 
-/// All stages of the body, over the list.
+/// All stages of the body, over the list, where the flight goes to this slot.
 fn pass_arrays(
     arrays: &mut [RegArray<Cell>],
     token: &mut PassToken,
     slots: u32,
+    place: u32,
     flight: &mut Flight,
 )
-    requires cell { PlaceBelow flight.old.place slots }
+    requires goes { flight.old.place ≡ Some place }
+    requires cell { place < slots }
     requires count { length arrays.old ≡ 32 }
     requires part { IsPart 5 slots arrays.old }
     requires token { token.old ≤ 5 }
@@ -103,8 +129,9 @@ fn pass_arrays(
     ensures count { length arrays.new ≡ 32 }
     ensures part { IsPart 5 slots arrays.new }
 {
+    let writes = flight.act.writes();
     for k in 0..arrays.len() {
-        pass_body(&mut arrays[k], token, k, flight);
+        pass_cell(&mut arrays[k], token, k, place, writes, flight);
     }
 }
 
@@ -125,8 +152,8 @@ pub fn pass_bodies(
     ensures count { length arrays.new.items ≡ 32 }
     ensures part { IsPart 5 slots arrays.new.items }
 {
-    if flight.place.is_some() {
-        pass_arrays(arrays, token, slots, flight);
+    if let Some(place) = flight.place {
+        pass_arrays(arrays, token, slots, place, flight);
     }
 }
 

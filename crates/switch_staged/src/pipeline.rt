@@ -240,10 +240,12 @@ fn answer(config: &Config, flight: Option<Flight>) -> Option<Emit>
     ensures { result ≡ answer_of config.now flight }
 {
     match flight {
-        Some(flight) => Some(Emit {
-            first: flight.first_out(config),
-            second: flight.second_out(),
-        }),
+        Some(flight) => {
+            let mut emit = Emit::none();
+            flight.put_first(config, &mut emit.first);
+            flight.put_second(&mut emit.second);
+            Some(emit)
+        }
         None => None,
     }
 }

@@ -12,7 +12,8 @@ ghost use Rattle.switch_staged.specs.Heads.{is_own as own_head, act_for, head_af
 ghost use Rattle.switch_staged.specs.Heads.{acted as acted_head, bound_head, body_after, cells_of_body as cut_body};
 ghost use Rattle.switch_staged.specs.Heads.{bare};
 ghost use Rattle.switch_staged.specs.Shapes.{shape_of};
-ghost use Rattle.switch_staged.specs.Stages.{InReach, entered, gate_of, gates_after, headed_with, heads_after, headed};
+ghost use Rattle.switch_staged.specs.Stages.{InReach, waiting, entered, gate_of, gates_after, headed_with, heads_after};
+ghost use Rattle.switch_staged.specs.Stages.{headed};
 ghost use Rattle.switch_staged.specs.Stages.{wants_part, head_mark, is_base as base_at, leaves_now as leaves_at};
 ghost use Rattle.switch_staged.specs.Stages.{parted_with, taken_after, part_for, changes_record, taken_at_place};
 ghost use Rattle.switch_staged.specs.Stages.{parted_at, hots_after, warmed, touch_key, key_touched};
@@ -254,16 +255,16 @@ fn shape_in(packet: &Packet) -> Shape
     }
 }
 
-/// The cells of the body that a packet brings.
+/// Puts the cells of the body that a packet brings.
 #[tactic(auto, unfolding(crate::specs::Heads::new_body))]
-fn cells_in(packet: &Packet) -> Cells
-    ensures { result ≡ cut_body (new_body packet.now) }
+fn put_cells_in(packet: &Packet, cells: &mut Cells)
+    ensures { cells.new ≡ cut_body (new_body packet.now) }
 {
     match packet {
         Packet::WriteReq { body, .. }
         | Packet::GetRep { body, .. }
-        | Packet::WriteRep { body, .. } => cells_of_body(body),
-        _ => no_cells(),
+        | Packet::WriteRep { body, .. } => *cells = cells_of_body(body),
+        _ => *cells = no_cells(),
     }
 }
 
@@ -283,14 +284,14 @@ fn bound_to(packet: &Packet) -> Head
     }
 }
 
-/// The cells that the slot is to have.
+/// Puts the cells that the slot is to have.
 #[tactic(auto, unfolding(crate::specs::Heads::body_after))]
-fn cells_due(act: Act, packet: &Packet) -> Cells
-    ensures { result ≡ cut_body (body_after act packet.now) }
+fn put_cells_due(act: Act, packet: &Packet, cells: &mut Cells)
+    ensures { cells.new ≡ cut_body (body_after act packet.now) }
 {
     match act {
-        Act::Absorb => cells_in(packet),
-        _ => no_cells(),
+        Act::Absorb => put_cells_in(packet, cells),
+        _ => *cells = no_cells(),
     }
 }
 
@@ -304,7 +305,7 @@ impl Flight {
             return;
         }
         let act = old.act(&self.packet);
-        self.cells = cells_due(act, &self.packet);
+        put_cells_due(act, &self.packet, &mut self.cells);
         self.found = old;
         self.act = act;
     }
@@ -316,13 +317,15 @@ pub fn pass_gate(
     token: &mut PassToken,
     config: &Config,
     packet: &Packet,
-) -> Flight
+    flight: &mut Flight,
+)
+    requires waiting { flight.old ≡ waiting packet.now }
     requires cell { length (cells_of gates.old) ≡ 1 }
     requires place { place_of gates.old ≡ 0 }
     requires token { token.old ≡ 0 }
     requires room { (gate_of (cells_of gates.old)).counter + 1 < 2 ^ 64 }
     ensures gate { cells_of gates.new ≡ gates_after (cells_of gates.old) packet.now }
-    ensures flight { result ≡ entered config.now (gate_of (cells_of gates.old)) packet.now }
+    ensures flight { flight.new ≡ entered config.now (gate_of (cells_of gates.old)) packet.now }
     ensures token { token.new ≡ 1 }
     ensures place { place_of gates.new ≡ 0 }
     ensures one { length (cells_of gates.new) ≡ 1 }
@@ -336,17 +339,8 @@ pub fn pass_gate(
             requires { gate.counter + 1 < 2 ^ 64 }
         { gate.after(packet) },
     );
-    Flight {
-        packet: *packet,
-        live: old.goes_on(config, packet),
-        gate: old.after(packet),
-        place: None,
-        found: Head::empty(),
-        act: Act::Keep,
-        part: Part::Stays,
-        hot: false,
-        cells: [[0; 8]; 32],
-    }
+    flight.live = old.goes_on(config, packet);
+    flight.gate = old.after(packet);
 }
 
 /// Stage 2: the heads of the slots.

@@ -32,7 +32,11 @@ pub fn tick_gate(
     ensures one { length (cells_of gates.new) ≡ 1 }
 {
     match packet {
-        Some(packet) => Some(pass_gate(gates, &mut PassToken::start(), config, &packet)),
+        Some(packet) => {
+            let mut flight = Flight::new(&packet);
+            pass_gate(gates, &mut PassToken::start(), config, &packet, &mut flight);
+            Some(flight)
+        }
         None => None,
     }
 }

@@ -1,6 +1,7 @@
 //! The switch in stages.
 use crate::bodies::{empty_bodies, pass_bodies, reset_bodies};
 use crate::cells::{Cell, Gate, HOT_CELLS, Head, HotCell, Taken};
+use crate::flight::Flight;
 use crate::stages::{pass_gate, pass_heads, pass_hot, pass_taken};
 use crate::table::pass_table;
 use far_base::{Config, Memory, Packet};
@@ -36,7 +37,7 @@ impl Model for StagedSwitch {
     ghost invariant = { λ s. IsStaged s.config s.gate s.lookup.bound s.heads s.taken s.hot s.bodies.items };
 }
 
-ghost use Rattle.std.specs.Prelude.{◌≡◌, ◌+◌, ◌<◌, ◌^◌, IfOk};
+ghost use Rattle.std.specs.Prelude.{◌≡◌, ◌+◌, ◌<◌, ◌^◌, IfOk, None};
 ghost use Rattle.far_base.specs.Limits.{IsConfig};
 ghost use Rattle.far_model.specs.Pass as model;
 ghost use Rattle.far_model.specs.View.{opening_view};
@@ -61,23 +62,30 @@ impl StagedSwitch {
     }
 
     /// One pass of a packet: each array is visited at most once, in the order of the places.
-    fn visit_all(&mut self, packet: &Packet) -> Emit
+    fn visit_all(&mut self, packet: &Packet, emit: &mut Emit)
         requires room { self.old.counter + 1 < 2 ^ 64 }
+        requires no_first { emit.old.first ≡ None }
+        requires no_second { emit.old.second ≡ None }
         ensures view { self.new ≡ (model.pass self.old packet.now).view }
-        ensures first { result.first ≡ (model.pass self.old packet.now).first }
-        ensures second { result.second ≡ (model.pass self.old packet.now).second }
+        ensures first { emit.new.first ≡ (model.pass self.old packet.now).first }
+        ensures second { emit.new.second ≡ (model.pass self.old packet.now).second }
     {
         let mut token = PassToken::start();
-        let mut flight = pass_gate(&mut self.gate, &mut token, &self.config, packet);
+        let mut flight = Flight::new(packet);
+        pass_gate(
+            &mut self.gate,
+            &mut token,
+            &self.config,
+            packet,
+            &mut flight,
+        );
         pass_table(&mut self.lookup, &mut flight);
         pass_heads(&mut self.heads, &mut token, &mut flight);
         pass_taken(&mut self.taken, &mut token, &mut flight);
         pass_hot(&mut self.hot, &mut token, &self.config, &mut flight);
         pass_bodies(&mut self.bodies, &mut token, self.config.slots, &mut flight);
-        Emit {
-            first: flight.first_out(&self.config),
-            second: flight.second_out(),
-        }
+        flight.put_first(&self.config, &mut emit.first);
+        flight.put_second(&mut emit.second);
     }
 }
 
@@ -85,7 +93,9 @@ impl Switch for StagedSwitch {
     ghost seen = { λ view. view };
 
     fn pass(&mut self, packet: &Packet) -> Emit {
-        self.visit_all(packet)
+        let mut emit = Emit::none();
+        self.visit_all(packet, &mut emit);
+        emit
     }
 
     fn reset(&mut self, epoch: u32, counter: u64) {
