@@ -15,7 +15,7 @@ use Rattle.far_base.specs.declared.record.Record.{Record}
 use Rattle.far_base.specs.declared.record.Versioned.{Versioned}
 use Rattle.far_model.specs.Members.{Among, Each, Pairs}
 use Rattle.far_model.specs.History.{IsKeyBefore, IsNewestPerKey}
-use Rattle.far_history.specs.LastWrites.{record_of}
+use Rattle.far_history.specs.Newest.{record_of}
 use Rattle.far_history.specs.Newest.{IsNewestOf, number_to_pass, with_key}
 use Rattle.far_history.proofs.Lists.{among_back, among_either, among_front, among_index}
 use Rattle.far_history.proofs.Orders.{key_self}

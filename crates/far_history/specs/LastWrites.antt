@@ -9,26 +9,27 @@ use Rattle.far_base.specs.declared.log.Placed.{Placed}
 use Rattle.far_model.specs.History.{IsHistory, IsFinalMap}
 use Rattle.far_history.specs.declared.told.Sending.{Sending}
 use Rattle.far_history.specs.declared.told.Told.{Told}
-use Rattle.far_base.specs.declared.record.Versioned.{Versioned}
+use Rattle.far_history.specs.declared.last_writes.Written.{Written}
 use Rattle.far_history.specs.Told.{unheard}
 use Rattle.far_history.specs.Stored.{body_in}
 
-abbrev pub with_write : List ℕ → List (List ℕ × Versioned) → ℕ → Option Sending → List (List ℕ × Versioned)
-with_write bytes entries num None = entries
-with_write bytes entries num (Some sent) = insert_entry (slice_cmp nat_cmp) entries sent.line.key
-    (record { num = num; body = body_in bytes sent.body })
+abbrev pub with_write : List (List ℕ × Written) → ℕ → Option Sending → List (List ℕ × Written)
+with_write entries num None = entries
+with_write entries num (Some sent) = insert_entry (slice_cmp nat_cmp) entries sent.line.key
+    (record { num = num; body = sent.body })
 
--- the entries of the keys, with the bodies that stand among the bytes, after one more operation of the history
-abbrev pub entries_with : List ℕ → List Told → List (List ℕ × Versioned) → Placed → List (List ℕ × Versioned)
-entries_with bytes table entries place = if place.read then entries else with_write bytes entries place.num
+-- the entries of the keys after one more operation of the history
+abbrev pub entries_with : List Told → List (List ℕ × Written) → Placed → List (List ℕ × Written)
+entries_with table entries place = if place.read then entries else with_write entries place.num
     (slice_index_or table place.op unheard).sent
 
-abbrev pub entries_after : List ℕ → List Told → List (List ℕ × Versioned) → List Placed → List (List ℕ × Versioned)
-entries_after bytes table entries [] = entries
-entries_after bytes table entries (p ∷ ps) = entries_after bytes table (entries_with bytes table entries p) ps
+abbrev pub entries_after : List Told → List (List ℕ × Written) → List Placed → List (List ℕ × Written)
+entries_after table entries [] = entries
+entries_after table entries (p ∷ ps) = entries_after table (entries_with table entries p) ps
 
-abbrev pub record_of : List ℕ × Versioned → Record
-record_of entry = record { key = entry.0; num = entry.1.num; body = entry.1.body }
+-- the record of an entry, with the body that stands among the bytes
+abbrev pub record_of : List ℕ → List ℕ × Written → Record
+record_of bytes entry = record { key = entry.0; num = entry.1.num; body = body_in bytes entry.1.body }
 
 -- the last writes of the history of a log
 pub record IsMapOfHistory (lines : List LogLine) (map : List Record) : Type 0 where

@@ -12,6 +12,9 @@ number_to_pass (Some held) = held.num
 abbrev pub with_key : List ℕ → Versioned → Record
 with_key key held = record { key = key; num = held.num; body = held.body }
 
+abbrev pub record_of : List ℕ × Versioned → Record
+record_of entry = record { key = entry.0; num = entry.1.num; body = entry.1.body }
+
 -- this is the record of the key that has its greatest number, or nothing where the key has no number above 0
 abbrev pub IsNewestOf : List Record → List ℕ → Option Versioned → Type 0
 IsNewestOf records key None = (r : Record) → Among r records → r.key ≡ key → r.num ≡ 0

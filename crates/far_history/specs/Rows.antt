@@ -10,7 +10,13 @@ use Rattle.far_history.specs.declared.stored.Stored.{Stored}
 use Rattle.far_history.specs.Report.{placed_line, texts, entry_text, is_control}
 use Rattle.far_history.specs.Stored.{line_in}
 use Rattle.far_text.specs.Text.{text_line}
+use Rattle.far_text.specs.declared.writer.TheConstants.{SPACE}
 use Rattle.far_history.specs.Told.{unheard, op_told, answer_told}
+
+-- the words, each with a space behind it
+abbrev pub spaced : List (List ℕ) → List ℕ
+spaced [] = []
+spaced (w ∷ ws) = w ++ SPACE ∷ spaced ws
 
 abbrev pub row_line : List ℕ → Placed → Option Sending → Option Reply → Option ℕ → List ℕ
 row_line bytes place (Some s) (Some r) (Some answered) = placed_line place (Some

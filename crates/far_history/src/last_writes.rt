@@ -4,20 +4,26 @@ ghost use Rattle.far_history.specs.LastWrites.{entries_with, entries_after, reco
 
 use crate::log::Log;
 use crate::places::places_in;
-use crate::stored::body_at;
+use crate::stored::{Stretch, body_at};
 use crate::told::{Told, gather, sending_of};
-use far_base::{Key, Memory, Placed, Record, Versioned};
+use far_base::{Key, Memory, Placed, Record};
 use std::alloc::Global;
 use std::collections::BTreeMap;
 
+/// The number of a write, and where its body stands.
+#[derive(Clone, Copy)]
+struct Written {
+    num: u64,
+    body: Stretch,
+}
+
 /// Sets the key of the place's operation, if it writes.
 fn note_write(
-    last: &mut BTreeMap<Key, Versioned>,
-    bytes: &[u8],
+    last: &mut BTreeMap<Key, Written>,
     table: &[Told],
     place: &Placed,
 ) -> Result<(), Memory>
-    ensures { OnOk result (last.new.entries ≡ entries_with bytes.now table.now last.old.entries place.now) }
+    ensures { OnOk result (last.new.entries ≡ entries_with table.now last.old.entries place.now) }
 {
     if place.read {
         return Ok(());
@@ -25,9 +31,9 @@ fn note_write(
     let Some(sent) = sending_of(table, place.op) else {
         return Ok(());
     };
-    let write = Versioned {
+    let write = Written {
         num: place.num,
-        body: body_at(bytes, sent.body),
+        body: sent.body,
     };
     match last.insert(sent.line.key, write) {
         Ok(_) => Ok(()),
@@ -38,32 +44,32 @@ fn note_write(
 /// The last write of each key.
 fn writes_of(
     alloc: Global,
-    bytes: &[u8],
     table: &[Told],
     places: &[Placed],
-) -> Result<BTreeMap<Key, Versioned>, Memory>
-    ensures { IfOk result (λ last. last.entries ≡ entries_after bytes.now table.now [] places.now) }
+) -> Result<BTreeMap<Key, Written>, Memory>
+    ensures { IfOk result (λ last. last.entries ≡ entries_after table.now [] places.now) }
 {
     let mut last = BTreeMap::new(alloc);
     for place in places {
-        note_write(&mut last, bytes, table, place)?;
+        note_write(&mut last, table, place)?;
     }
     Ok(last)
 }
 
 /// The records of the keys, by key.
-pub(crate) fn records_of(
+fn records_of(
     alloc: Global,
-    last: &BTreeMap<Key, Versioned>,
+    bytes: &[u8],
+    last: &BTreeMap<Key, Written>,
 ) -> Result<Vec<Record>, Memory>
-    ensures { IfOk result (λ records. records.items ≡ map record_of last.now.entries) }
+    ensures { IfOk result (λ records. records.items ≡ map (record_of bytes.now) last.now.entries) }
 {
-    let mut records = Vec::new(alloc);
+    let mut records = Vec::with_capacity(alloc, last.len())?;
     for (key, write) in last {
         let record = Record {
             key: *key,
             num: write.num,
-            body: write.body,
+            body: body_at(bytes, write.body),
         };
         records.push(record).map_err(|_| Memory)?;
     }
@@ -77,10 +83,10 @@ pub(crate) fn last_writes(
     table: &[Told],
     places: &[Placed],
 ) -> Result<Vec<Record>, Memory>
-    ensures { IfOk result (λ records. records.items ≡ map record_of (entries_after bytes.now table.now [] places.now)) }
+    ensures { IfOk result (λ records. records.items ≡ map (record_of bytes.now) (entries_after table.now [] places.now)) }
 {
-    let last = writes_of(alloc, bytes, table, places)?;
-    records_of(alloc, &last)
+    let last = writes_of(alloc, table, places)?;
+    records_of(alloc, bytes, &last)
 }
 
 /// The last write of the history for each key that was written, by key.

@@ -10,9 +10,9 @@ pub(crate) struct Mark {
     pub key: Key,
     pub num: u64,
     pub shown: bool,
-    pub moment: u64,
     pub read: bool,
     pub op: u32,
+    pub moment: u64,
 }
 
 ghost use Rattle.std.specs.Prelude.{◌≡◌, ◌^◌, ◌≤◌, ◌++◌, length, OnOk, IfOk};

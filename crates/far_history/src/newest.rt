@@ -1,12 +1,11 @@
-ghost use Rattle.std.specs.Prelude.{◌≡◌, ◌++◌, ◌∷◌, [], ℕ, List, OnOk, IfOk};
+ghost use Rattle.std.specs.Prelude.{◌≡◌, ◌++◌, ◌∷◌, [], ℕ, List, map, OnOk, IfOk};
 ghost use Rattle.std.specs.Ordering.{nat_cmp};
 ghost use Rattle.std.specs.Cmp.Lexicographic.{slice_cmp};
 ghost use Rattle.std.specs.BTreeMap.{get, IsOrdered};
 ghost use Rattle.far_base.specs.declared.record.Record.{Record as Held};
 ghost use Rattle.far_model.specs.History.{IsNewestPerKey};
-ghost use Rattle.far_history.specs.Newest.{IsNewestOf, number_to_pass};
+ghost use Rattle.far_history.specs.Newest.{IsNewestOf, number_to_pass, record_of};
 
-use crate::last_writes::records_of;
 use far_base::{Key, Memory, Record, Versioned};
 use std::alloc::Global;
 use std::collections::BTreeMap;
@@ -52,6 +51,22 @@ fn newest_of(alloc: Global, list: &[Record]) -> Result<BTreeMap<Key, Versioned>,
         take_newer(&mut newest, rec)?;
     }
     Ok(newest)
+}
+
+/// The records of the keys, by key.
+fn records_of(alloc: Global, newest: &BTreeMap<Key, Versioned>) -> Result<Vec<Record>, Memory>
+    ensures { IfOk result (λ records. records.items ≡ map record_of newest.now.entries) }
+{
+    let mut records = Vec::new(alloc);
+    for (key, held) in newest {
+        let record = Record {
+            key: *key,
+            num: held.num,
+            body: held.body,
+        };
+        records.push(record).map_err(|_| Memory)?;
+    }
+    Ok(records)
 }
 
 /// The record of greatest number of each key that has a number above 0, by key. Of two records of one key and number

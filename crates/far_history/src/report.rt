@@ -1,20 +1,21 @@
-ghost use Rattle.std.specs.Prelude.{◌≡◌, List, ℕ, ◌++◌, [], ◌∷◌, IfOk, OnOk, codes, slice_index_or, Some};
+ghost use Rattle.std.specs.Prelude.{◌≡◌, List, ℕ, ◌++◌, [], ◌∷◌, IfOk, OnOk, codes, map, slice_index_or, Some};
 ghost use Rattle.std.specs.Fmt.{decimal};
 ghost use Rattle.far_base.specs.Key.{key_text};
+ghost use Rattle.far_text.specs.Spelled.{word_text};
 ghost use Rattle.far_text.specs.Text.{text_line, body_word};
 ghost use Rattle.far_history.specs.Told.{unheard, op_told, answer_told};
 ghost use Rattle.far_history.specs.RoomyLog.{log_view};
 ghost use Rattle.far_history.specs.Stored.{body_in};
 ghost use Rattle.far_history.specs.Report as words;
-ghost use Rattle.far_history.specs.Rows.{row_text, history_by_rows, stored_control, stored_text, control_by_stored};
+ghost use Rattle.far_history.specs.Rows.{row_text, spaced, history_by_rows, stored_control, stored_text, control_by_stored};
 
 use crate::last_writes::last_writes;
 use crate::log::Log;
 use crate::places::places_in;
-use crate::stored::{Bare, Stored, Stretch, body_at};
+use crate::stored::{Bare, Stored, Stretch, body_at, text_at};
 use crate::told::{Reply, Sending, Told, gather};
-use far_base::{Body, Key, Memory, Op, Placed, Record};
-use far_text::{Word, put_line, put_text};
+use far_base::{BODY_LIMIT, Key, Memory, Op, Placed, Record};
+use far_text::{Word, put_line, put_text, put_word};
 use std::alloc::Global;
 
 fn kind_word(op: &Op) -> &[u8]
@@ -33,18 +34,42 @@ fn source_word(near: &bool) -> &[u8]
     if *near { b"switch" } else { b"server" }
 }
 
-/// The words of the line of an operation that are no numbers.
+/// Writes the words, each with a space behind it.
+fn put_spaced(out: &mut Vec<u8>, words: &[Word]) -> Result<(), Memory>
+    ensures { OnOk result (out.new.items ≡ out.old.items ++ spaced (map word_text words.now)) }
+{
+    for word in words {
+        put_word(out, word)?;
+        put_text(out, b" ")?;
+    }
+    Ok(())
+}
+
+/// Writes the word of the body that stands there.
+fn put_body_at(out: &mut Vec<u8>, bytes: &[u8], stretch: Stretch) -> Result<(), Memory>
+    ensures { OnOk result (out.new.items ≡ out.old.items ++ body_word (body_in bytes.now stretch)) }
+{
+    let text = text_at(bytes, stretch);
+    if !stretch.present || BODY_LIMIT < text.len() {
+        return put_text(out, b"-");
+    }
+    put_text(out, b"=")?;
+    put_text(out, text)
+}
+
+/// The words of the line of an operation that are no numbers; the body is one that stands among the bytes.
 #[derive(Clone, Copy)]
 struct RowWords<'a> {
     kind: &'a [u8],
     key: &'a Key,
-    body: &'a Body,
+    body: Stretch,
     source: &'a [u8],
 }
 
 /// Writes the line of an operation: its numbers, and its other words between them.
 fn put_words(
     out: &mut Vec<u8>,
+    bytes: &[u8],
     place: &Placed,
     client: u32,
     words: &RowWords,
@@ -53,9 +78,9 @@ fn put_words(
 ) -> Result<(), Memory>
     ensures { OnOk result (out.new.items ≡ out.old.items ++ text_line
         (decimal place.now.op ∷ decimal client ∷ words.now.kind.now ∷ key_text words.now.key.now ∷ decimal place.now.num
-        ∷ body_word words.now.body.now ∷ words.now.source.now ∷ decimal sent_at ∷ decimal answered ∷ [])) }
+        ∷ body_word (body_in bytes.now words.now.body) ∷ words.now.source.now ∷ decimal sent_at ∷ decimal answered ∷ [])) }
 {
-    put_line(
+    put_spaced(
         out,
         &[
             Word::Number(u64::from(place.op)),
@@ -63,7 +88,13 @@ fn put_words(
             Word::Text(words.kind),
             Word::Key(words.key),
             Word::Number(place.num),
-            Word::Body(words.body),
+        ],
+    )?;
+    put_body_at(out, bytes, words.body)?;
+    put_text(out, b" ")?;
+    put_line(
+        out,
+        &[
             Word::Text(words.source),
             Word::Number(sent_at),
             Word::Number(answered),
@@ -87,18 +118,21 @@ fn put_answered(
 {
     let line = sent.line;
     let near = reply.near;
-    let body = if place.read {
-        body_at(bytes, reply.body)
-    } else {
-        body_at(bytes, sent.body)
-    };
     let words = RowWords {
         kind: kind_word(&line.op),
         key: &line.key,
-        body: &body,
+        body: if place.read { reply.body } else { sent.body },
         source: source_word(&near),
     };
-    put_words(out, place, line.client, &words, sent.moment, answered)
+    put_words(
+        out,
+        bytes,
+        place,
+        line.client,
+        &words,
+        sent.moment,
+        answered,
+    )
 }
 
 /// Writes the line of an entry of a slot.

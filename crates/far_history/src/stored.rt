@@ -191,7 +191,8 @@ pub(crate) fn keep_body(bytes: &mut Vec<u8>, entry: &LogEntry) -> Stretch
     }
 }
 
-fn text_at(bytes: &[u8], stretch: Stretch) -> &[u8]
+/// The bytes that stand there.
+pub(crate) fn text_at(bytes: &[u8], stretch: Stretch) -> &[u8]
     ensures { result.now ≡ take stretch.len (drop stretch.at bytes.now) }
 {
     let rest = &bytes[stretch.at.min(bytes.len())..];

@@ -1,4 +1,4 @@
-ghost use Rattle.std.specs.Prelude.{◌≡◌, ◌++◌, ◌∷◌, ◌≤◌, map, length, take, OnOk, OnErr};
+ghost use Rattle.std.specs.Prelude.{◌≡◌, [], ◌++◌, ◌∷◌, ◌≤◌, map, length, take, OnOk, OnErr};
 ghost use Rattle.std.specs.Fmt.{decimal};
 ghost use Rattle.far_base.specs.Key.{key_text};
 ghost use Rattle.far_base.specs.Padded.{length_of};
@@ -36,6 +36,14 @@ pub fn put_text(out: &mut Vec<u8>, text: &[u8]) -> Result<(), Memory>
 {
     out.extend_from_slice(text)?;
     Ok(())
+}
+
+/// Appends the byte. At `Memory` nothing was appended.
+fn put_byte(out: &mut Vec<u8>, byte: u8) -> Result<(), Memory>
+    ensures text { OnOk result (out.new.items ≡ out.old.items ++ byte ∷ []) }
+    ensures kept { OnErr result (out.new.items ≡ out.old.items) }
+{
+    out.push(byte).map_err(|_| Memory)
 }
 
 /// Appends the digits of the number. At `Memory` nothing was appended.
@@ -77,9 +85,9 @@ fn append_body(out: &mut Vec<u8>, body: &Body) -> Result<(), Memory>
 {
     let text = body.text();
     if !body.is_present() {
-        return put_text(out, b"-");
+        return put_byte(out, b'-');
     }
-    put_text(out, b"=")?;
+    put_byte(out, b'=')?;
     put_text(out, text)
 }
 
@@ -111,7 +119,7 @@ fn append_spaced(out: &mut Vec<u8>, word: &Word) -> Result<(), Memory>
     ensures text { OnOk result (out.new.items ≡ out.old.items ++ SPACE ∷ word_text word.now) }
     ensures front { take (length out.old.items) out.new.items ≡ out.old.items }
 {
-    put_text(out, &[SPACE])?;
+    put_byte(out, SPACE)?;
     put_word(out, word)
 }
 
@@ -123,7 +131,7 @@ fn append_after(out: &mut Vec<u8>, words: &[Word]) -> Result<(), Memory>
     for word in words {
         append_spaced(out, word)?;
     }
-    put_text(out, &[LINE_END])
+    put_byte(out, LINE_END)
 }
 
 #[tactic(auto, using(crate::proofs::Fronts::front_more))]
@@ -132,7 +140,7 @@ fn append_line(out: &mut Vec<u8>, words: &[Word]) -> Result<(), Memory>
     ensures front { take (length out.old.items) out.new.items ≡ out.old.items }
 {
     match words {
-        [] => put_text(out, &[LINE_END]),
+        [] => put_byte(out, LINE_END),
         [first, others @ ..] => {
             put_word(out, first)?;
             append_after(out, others)

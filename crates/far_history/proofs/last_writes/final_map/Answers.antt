@@ -25,5 +25,5 @@ returns c =
     (IfOk-weaker c.last_writes.result _ _ (λ records e. record {
       history = places;
       is_history = h;
-      is_final = subst (IsFinalMap lines places) (sym (e ∙ ap (λ (t : List Told). map record_of (entries_after bytes t [] c.deref-3.result.now)) c.deref-2.ensures.value ∙ ap (λ (p : List Placed). map record_of (entries_after bytes table [] p)) c.deref-3.ensures.value)) (is_final_map bytes lines table places rows h);
+      is_final = subst (IsFinalMap lines places) (sym (e ∙ ap (λ (t : List Told). map (record_of bytes) (entries_after t [] c.deref-3.result.now)) c.deref-2.ensures.value ∙ ap (λ (p : List Placed). map (record_of bytes) (entries_after table [] p)) c.deref-3.ensures.value)) (is_final_map bytes lines table places rows h);
     }) c.last_writes.ensures)

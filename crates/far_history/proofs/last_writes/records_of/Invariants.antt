@@ -3,4 +3,4 @@ use Rattle.far_history.specs.LastWrites.{record_of}
 use Rattle.far_history.proofs.last_writes.records_of.Given as goal
 
 abbrev pub invariant-loop-key : goal.invariant-loop-key
-invariant-loop-key l = l.records.items ++ map record_of l.key-iterator ≡ map record_of l.last.entries
+invariant-loop-key l = l.records.items ++ map (record_of l.bytes) l.key-iterator ≡ map (record_of l.bytes) l.last.entries

@@ -29,8 +29,8 @@ returns c =
     let records : List Record = c.in_ok-records.records.items in
     let rows : (op : ℕ) → IsRow bytes lines op (get_or table op unheard) = c.in_ok-table.ensures.rows.rows bytes in
     let h : IsHistory lines places = c.in_ok-places.ensures bytes in
-    let m : records ≡ map record_of (entries_after bytes table [] places) =
-    c.in_ok-records.ensures ∙ (ap (λ (t : List Told). map record_of (entries_after bytes t [] c.deref-3.result.now)) c.deref-2.ensures.value ∙ ap (λ (p : List Placed). map record_of (entries_after bytes table [] p)) c.deref-3.ensures.value) in
+    let m : records ≡ map (record_of bytes) (entries_after table [] places) =
+    c.in_ok-records.ensures ∙ (ap (λ (t : List Told). map (record_of bytes) (entries_after t [] c.deref-3.result.now)) c.deref-2.ensures.value ∙ ap (λ (p : List Placed). map (record_of bytes) (entries_after table [] p)) c.deref-3.ensures.value) in
     let e1 : c.put_text.new.out.items ≡ c.new-out.result.items ++ text_line (codes "far 1 report" ∷ []) = c.in_ok-put_text.ensures.text in
     let e2 : c.put_count.new.out.items ≡ c.put_text.new.out.items ++ text_line (codes "steps" ∷ decimal c.args.log.now.steps ∷ []) =
     c.in_ok-put_count.ensures ∙ ap (λ (n : ℕ). c.put_text.new.out.items ++ text_line (codes "steps" ∷ decimal n ∷ [])) c.steps.ensures in

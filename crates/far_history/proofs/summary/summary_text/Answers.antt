@@ -26,8 +26,8 @@ returns c =
     let records : List Record = c.in_ok-records.records.items in
     let rows : (op : ℕ) → IsRow bytes lines op (get_or table op unheard) = c.in_ok-table.ensures.rows.rows bytes in
     let h : IsHistory lines places = c.in_ok-places.ensures bytes in
-    let m : records ≡ map record_of (entries_after bytes table [] places) =
-    c.in_ok-records.ensures ∙ (ap (λ (t : List Told). map record_of (entries_after bytes t [] c.deref-3.result.now)) c.deref-2.ensures.value ∙ ap (λ (p : List Placed). map record_of (entries_after bytes table [] p)) c.deref-3.ensures.value) in
+    let m : records ≡ map (record_of bytes) (entries_after table [] places) =
+    c.in_ok-records.ensures ∙ (ap (λ (t : List Told). map (record_of bytes) (entries_after t [] c.deref-3.result.now)) c.deref-2.ensures.value ∙ ap (λ (p : List Placed). map (record_of bytes) (entries_after table [] p)) c.deref-3.ensures.value) in
     let near : c.count_near.result ≡ words.answered_so words.is_near lines places =
     c.count_near.ensures ∙ (ap (λ (t : List Told). rows_so words.is_near t c.deref-5.result.now) c.deref-4.ensures.value
     ∙ (ap (λ (p : List Placed). rows_so words.is_near table p) c.deref-5.ensures.value ∙ rows_count words.is_near bytes lines table places rows)) in
