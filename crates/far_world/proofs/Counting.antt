@@ -153,11 +153,16 @@ not_empty : {X : Type 0} → (xs : List X) → 0 < length xs → is_empty xs ≡
 not_empty [] h = absurd (omega arith)
 not_empty (x ∷ xs) h = refl
 
--- a message that comes to a running switch or to another can be delivered
-pub some_choice : (s : State) → s.running ≡ true → is_empty s.bag ≡ false → is_empty (choices s) ≡ false
-some_choice s r b =
-    let d : count_by (can_deliver s.running) s.bag ≡ length s.bag = ap (λ (x : Bool). count_by (can_deliver x) s.bag) r ∙ all_deliverable s.bag in
-    not_empty (choices s) (omega (arith, length_choices s, d, some_in s.bag b))
+-- where a message can be delivered there is a choice
+pub some_choice : (s : State) → 0 < count_by (can_deliver s.running) s.bag → is_empty (choices s) ≡ false
+some_choice s h = not_empty (choices s) (omega (arith, length_choices s, h))
+
+-- a message that is not to the switch can be delivered
+pub some_passes : (bag : List Message) (i : ℕ) → i < length bag → can_deliver false (get_or bag i nothing_sent) ≡ true → 0 < count_by (can_deliver false) bag
+some_passes bag i less able =
+    let there = delivery_is false bag i (count_by (can_deliver false) (take i bag)) nothing_sent less able refl in
+    let below = within (deliver_choices false 0 bag) (count_by (can_deliver false) (take i bag)) (Deliver i) there in
+    omega (arith, below, length_deliveries false bag)
 
 keep : {A : Type 0} → (xs ys : List A) (k : ℕ) (a : A) → slice_get xs k ≡ Some a → slice_get (xs ++ ys) k ≡ Some a
 keep [] ys k a h = absurd cc

@@ -1,9 +1,10 @@
-ghost use Rattle.std.specs.Prelude.{◌≡◌, ◌+◌, ◌<◌, ◌≤◌, ◌^◌, ◌++◌, length, false, true, Some, is_some, slice_get, not};
+ghost use Rattle.std.specs.Prelude.{◌≡◌, ◌+◌, ◌<◌, ◌≤◌, ◌^◌, ◌++◌, length, false, true, Some, is_some, slice_get, not, take};
 ghost use Rattle.std.specs.Prelude.{slice_index_or, nat_eq, ◌&&◌, if◌then◌else◌};
 ghost use Rattle.std.specs.List.{count_by, list_all};
 ghost use Rattle.far_base.specs.Limits.{IsPlan, due_number};
 ghost use Rattle.far_base.specs.declared.event.Event.{Event};
 ghost use Rattle.far_base.specs.declared.plan.TheConstants.{CLIENT_LIMIT};
+ghost use Rattle.far_model.specs.Controller as model;
 ghost use Rattle.far_model.specs.Events as events;
 ghost use Rattle.far_model.specs.Members.{is_empty};
 ghost use Rattle.far_model.specs.Passes as counts;
@@ -18,6 +19,25 @@ use far_base::{Event, Order, Party, PassKind};
 use far_outside::Keeper;
 use switch_core::Switch;
 
+/// What can happen but orders: how many clients can send, how many messages can be delivered, and which events of the
+/// controller.
+#[derive(Clone, Copy)]
+struct Choices {
+    senders: u32,
+    deliverable: u32,
+    tick: bool,
+    recover: bool,
+    restart: bool,
+}
+
+/// 1 where the test holds, and else 0.
+fn one_if(test: bool) -> u32
+    ensures value { result ≡ if test then 1 else 0 }
+    ensures bound { result ≤ 1 }
+{
+    if test { 1 } else { 0 }
+}
+
 /// How many clients can send.
 fn count_senders(seats: &[Seat]) -> u32
     requires { length seats.now < 2 ^ 16 }
@@ -26,9 +46,7 @@ fn count_senders(seats: &[Seat]) -> u32
 {
     let mut count = 0;
     for seat in seats {
-        if seat.can_send() {
-            count += 1;
-        }
+        count += one_if(seat.can_send());
     }
     count
 }
@@ -60,6 +78,31 @@ fn can_deliver(bag: &Bag, running: bool, place: u32) -> bool
     running || bag.addressee(place) != Party::Switch
 }
 
+/// How many of the first messages can be delivered, up to the place, where the switch does not run: those to others.
+fn count_before(bag: &Bag, place: u32) -> u32
+    requires { place ≤ length bag.now.messages }
+    ensures count { result ≡ count_by (events.can_deliver false) (take place bag.now.messages) }
+    ensures bound { result ≤ place }
+{
+    let mut count = 0;
+    for at in 0..place {
+        count += one_if(can_deliver(bag, false, at));
+    }
+    count
+}
+
+/// Whether a message goes to another than the switch.
+fn passes_some(bag: &Bag) -> bool
+    ensures { result ≡ true → 0 < count_by (events.can_deliver false) bag.now.messages }
+{
+    for at in 0..bag.len() {
+        if can_deliver(bag, false, at) {
+            return true;
+        }
+    }
+    false
+}
+
 /// How many messages can be delivered: all to a running switch, and those to others.
 fn count_deliverable(bag: &Bag, running: bool) -> u32
     ensures count { result ≡ count_by (events.can_deliver running) bag.now.messages }
@@ -68,13 +111,25 @@ fn count_deliverable(bag: &Bag, running: bool) -> u32
     if running {
         return bag.len();
     }
-    let mut count = 0;
-    for place in 0..bag.len() {
-        if can_deliver(bag, running, place) {
-            count += 1;
+    count_before(bag, bag.len())
+}
+
+/// The place in the bag of the message at this place among those to others than the switch, counted from 0. It has at
+/// least so many messages before it.
+fn passing_at(bag: &Bag, place: u32) -> u32
+    requires { place < count_by (events.can_deliver false) bag.now.messages }
+    ensures { slice_get (events.deliver_choices false 0 bag.now.messages) place ≡ Some (Event.Deliver result) }
+{
+    let mut left = place - count_before(bag, place);
+    for at in place..bag.len() {
+        if can_deliver(bag, false, at) {
+            if left == 0 {
+                return at;
+            }
+            left -= 1;
         }
     }
-    count
+    unreachable!()
 }
 
 /// The place in the bag of the message at this place among those that can be delivered, counted from 0.
@@ -85,16 +140,7 @@ fn deliverable_at(bag: &Bag, running: bool, place: u32) -> u32
     if running {
         return place;
     }
-    let mut left = place;
-    for at in 0..bag.len() {
-        if can_deliver(bag, running, at) {
-            if left == 0 {
-                return at;
-            }
-            left -= 1;
-        }
-    }
-    unreachable!()
+    passing_at(bag, place)
 }
 
 /// The event of the controller at this place among those that can happen: a tick, a recovery, a restart.
@@ -119,6 +165,21 @@ fn controller_event(tick: bool, recover: bool, restart: bool, place: u32) -> Eve
     Event::Tick
 }
 
+/// How many they are.
+fn count_of(choices: &Choices) -> u32
+    requires senders { choices.now.senders < 2 ^ 16 }
+    requires deliverable { choices.now.deliverable < 2 ^ 28 }
+    ensures count { result ≡ choices.now.senders + choices.now.deliverable + (if choices.now.tick then 1 else 0)
+        + (if choices.now.recover then 1 else 0) + (if choices.now.restart then 1 else 0) }
+    ensures bound { result < 2 ^ 29 }
+{
+    choices.senders
+        + choices.deliverable
+        + one_if(choices.tick)
+        + one_if(choices.recover)
+        + one_if(choices.restart)
+}
+
 /// Whether each operation of each client is answered.
 fn are_done(seats: &[Seat]) -> bool
     ensures { result ≡ list_all seat_is_done seats.now }
@@ -130,14 +191,6 @@ fn all_hold(clients: bool, orders: bool, running: bool, messages: bool, controll
     ensures { result ≡ (clients && (orders && (running && (messages && controller)))) }
 {
     clients && orders && running && messages && controller
-}
-
-/// 1 where the test holds, and else 0.
-fn one_if(test: bool) -> u32
-    ensures value { result ≡ if test then 1 else 0 }
-    ensures bound { result ≤ 1 }
-{
-    if test { 1 } else { 0 }
 }
 
 /// The place of a kind among the counts of packets that came to the switch.
@@ -179,6 +232,30 @@ impl<S: Switch + Drop, K: Keeper + Drop> Parties<S, K> {
         !self.running && !self.controller.has_round() && self.bag.none_from_switch()
     }
 
+    /// What can happen but orders.
+    fn choices(&self) -> Choices
+        requires clients { length self.now.state.clients < 2 ^ 16 }
+        requires few { length self.now.state.bag < 2 ^ 28 }
+        ensures senders { result.senders ≡ count_by events.can_send self.now.state.clients }
+        ensures most_senders { result.senders < 2 ^ 16 }
+        ensures deliverable { result.deliverable ≡ count_by (events.can_deliver self.now.state.running)
+            self.now.state.bag }
+        ensures most_deliverable { result.deliverable < 2 ^ 28 }
+        ensures tick { result.tick ≡ is_some (model.tick self.now.state.controller) }
+        ensures recover { result.recover ≡ events.can_recover self.now.state }
+        ensures restart { result.restart ≡ is_some (model.ready self.now.state.controller) }
+        ensures all { length (events.choices self.now.state) ≡ result.senders + result.deliverable
+            + (if result.tick then 1 else 0) + (if result.recover then 1 else 0) + (if result.restart then 1 else 0) }
+    {
+        Choices {
+            senders: count_senders(&self.clients),
+            deliverable: count_deliverable(&self.bag, self.running),
+            tick: self.can_tick,
+            recover: self.can_recover(),
+            restart: self.controller.ready().is_some(),
+        }
+    }
+
     /// How many events other than orders can happen.
     pub(crate) fn count_choices(&self) -> u32
         requires clients { length self.now.state.clients < 2 ^ 16 }
@@ -186,11 +263,19 @@ impl<S: Switch + Drop, K: Keeper + Drop> Parties<S, K> {
         ensures count { result ≡ length (events.choices self.now.state) }
         ensures bound { result < 2 ^ 29 }
     {
-        count_senders(&self.clients)
-            + count_deliverable(&self.bag, self.running)
-            + one_if(self.can_tick)
-            + one_if(self.can_recover())
-            + one_if(self.controller.ready().is_some())
+        count_of(&self.choices())
+    }
+
+    /// Whether a message can surely be delivered. Most messages go to others than a switch that does not run, so that
+    /// one is found soon.
+    fn has_delivery(&self) -> bool
+        ensures { result ≡ true → 0 < count_by (events.can_deliver self.now.state.running) self.now.state.bag }
+    {
+        if self.running {
+            !self.bag.is_empty()
+        } else {
+            passes_some(&self.bag)
+        }
     }
 
     /// Whether an event other than an order can happen.
@@ -199,10 +284,33 @@ impl<S: Switch + Drop, K: Keeper + Drop> Parties<S, K> {
         requires few { length self.now.state.bag < 2 ^ 28 }
         ensures { result ≡ not (is_empty (events.choices self.now.state)) }
     {
-        if self.running && !self.bag.is_empty() {
+        if self.has_delivery() {
             return true;
         }
         self.count_choices() != 0
+    }
+
+    /// The event at this place among these, which can happen, counted from 0.
+    fn event_among(&self, choices: &Choices, place: u32) -> Event
+        requires senders { choices.now.senders ≡ count_by events.can_send self.now.state.clients }
+        requires most { choices.now.senders < 2 ^ 16 }
+        requires deliverable { choices.now.deliverable ≡ count_by (events.can_deliver self.now.state.running)
+            self.now.state.bag }
+        requires tick { choices.now.tick ≡ is_some (model.tick self.now.state.controller) }
+        requires recover { choices.now.recover ≡ events.can_recover self.now.state }
+        requires restart { choices.now.restart ≡ is_some (model.ready self.now.state.controller) }
+        requires clients { length self.now.state.clients < 2 ^ 16 }
+        ensures { result ≡ slice_index_or (events.choices self.now.state) place Event.Tick }
+    {
+        if place < choices.senders {
+            return Event::Send(sender_at(&self.clients, place));
+        }
+        let place = place - choices.senders;
+        if place < choices.deliverable {
+            return Event::Deliver(deliverable_at(&self.bag, self.running, place));
+        }
+        let place = place - choices.deliverable;
+        controller_event(choices.tick, choices.recover, choices.restart, place)
     }
 
     /// The event other than an order at this place among those that can happen, counted from 0.
@@ -211,21 +319,7 @@ impl<S: Switch + Drop, K: Keeper + Drop> Parties<S, K> {
         requires few { length self.now.state.bag < 2 ^ 28 }
         ensures { result ≡ slice_index_or (events.choices self.now.state) place Event.Tick }
     {
-        let senders = count_senders(&self.clients);
-        if place < senders {
-            return Event::Send(sender_at(&self.clients, place));
-        }
-        let place = place - senders;
-        let deliverable = count_deliverable(&self.bag, self.running);
-        if place < deliverable {
-            return Event::Deliver(deliverable_at(&self.bag, self.running, place));
-        }
-        controller_event(
-            self.can_tick,
-            self.can_recover(),
-            self.controller.ready().is_some(),
-            place - deliverable,
-        )
+        self.event_among(&self.choices(), place)
     }
 
     /// Whether an order can happen, apart from its number.
@@ -295,8 +389,9 @@ impl<S: Switch + Drop, K: Keeper + Drop> Parties<S, K> {
         if self.is_order_enabled() {
             return Event::Order(self.done);
         }
-        let count = u64::from(self.count_choices());
-        self.choice_at((pick % count) as u32)
+        let choices = self.choices();
+        let count = u64::from(count_of(&choices));
+        self.event_among(&choices, (pick % count) as u32)
     }
 
     /// Whether each order is done.
