@@ -116,7 +116,7 @@ pub(crate) fn all_marks(
     requires { length table.now ≤ 2 ^ 32 }
     ensures { IfOk result (λ marks. marks.items ≡ shown_in table.now lines.now ++ wanted_marks 0 table.now) }
 {
-    let mut marks = Vec::new(alloc);
+    let mut marks = Vec::with_capacity(alloc, 2 * table.len())?;
     add_shown(&mut marks, table, lines)?;
     add_wanted(&mut marks, table)?;
     Ok(marks)
