@@ -1,5 +1,5 @@
 use far_base::{Memory, Out, Packet, Party};
-use packet_codec::{BadPacket, decode};
+use packet_codec::decode_into;
 use std::alloc::Global;
 use std::marker::Model;
 
@@ -21,7 +21,7 @@ impl Model for Bag {
 }
 
 ghost use Rattle.std.specs.Prelude.{◌≡◌, ◌+◌, ◌-◌, ◌^◌, ◌<◌, ◌≤◌, ◌++◌, ◌&&◌, not, [], ◌∷◌, length, remove, take};
-ghost use Rattle.std.specs.Prelude.{slice_index_or, Ok, OnOk};
+ghost use Rattle.std.specs.Prelude.{slice_index_or, OnOk};
 ghost use Rattle.std.specs.List.{count_by, list_any};
 ghost use Rattle.far_base.specs.declared.packet.Message.{Message};
 ghost use Rattle.far_model.specs.Events.{can_deliver, is_switch};
@@ -71,13 +71,15 @@ impl Bag {
         self.wires.put(from, out.to, &out.packet);
     }
 
-    /// What the message at the place says, read from its bytes.
-    pub(crate) fn packet_at(&self, place: u32) -> Result<Packet, BadPacket>
+    /// Reads what the message at the place says from its bytes, and puts it where the packet stands.
+    pub(crate) fn read(&self, place: u32, packet: &mut Packet)
         requires { place < length self.now.messages }
-        ensures { result ≡ Ok (slice_index_or self.now.messages place nothing_sent).packet }
+        ensures { packet.new ≡ (slice_index_or self.now.messages place nothing_sent).packet }
     {
         let (_, _, wire) = self.wires.at(place);
-        decode(wire.bytes())
+        if decode_into(wire.bytes(), packet).is_err() {
+            unreachable!();
+        }
     }
 
     /// To whom the message at the place goes.

@@ -173,10 +173,9 @@ impl<S: Switch + Drop, K: Keeper + Drop> Parties<S, K> {
         ensures cause { IsErrOf result StepFault.KeeperFailed → Rose self.old.keeper.faults self.new.keeper.faults }
     {
         let to = self.bag.addressee(place);
-        match &self.bag.packet_at(place) {
-            Ok(packet) => self.deliver_to(place, to, packet),
-            Err(_) => unreachable!(),
-        }
+        let mut packet = Packet::Ask { round: 0 };
+        self.bag.read(place, &mut packet);
+        self.deliver_to(place, to, &packet)
     }
 
     /// An event in which no keeper is asked.

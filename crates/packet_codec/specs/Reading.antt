@@ -18,6 +18,12 @@ abbrev pub Reads : {A : Type 0} → Result A BadPacket → List ℕ → Result (
 Reads (Ok value) left read = read ≡ Ok (value, left)
 Reads (Err fault) left read = read ≡ Err fault
 
+-- the same of a reader that puts the value where it stays
+abbrev pub ReadsInto : {A : Type 0} → Result (Unit {0}) BadPacket → A → List ℕ → Result (A × List ℕ) BadPacket
+    → Type 0
+ReadsInto (Ok done) value left read = read ≡ Ok (value, left)
+ReadsInto (Err fault) value left read = read ≡ Err fault
+
 -- goes on after a value, and ends at a fault
 infixl 10 ◌>>=◌
 abbrev pub ◌>>=◌ : {A B : Type 0} → Result A BadPacket → (A → Result B BadPacket) → Result B BadPacket

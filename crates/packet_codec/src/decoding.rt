@@ -1,4 +1,4 @@
-ghost use Rattle.std.specs.Prelude.{◌≡◌, ◌≢◌, ◌↔◌, ℕ, List, [], ◌++◌, IfOk};
+ghost use Rattle.std.specs.Prelude.{◌≡◌, ◌≢◌, ◌↔◌, ℕ, List, [], ◌++◌, Ok, Err, IfOk, IfErr, OnOk};
 ghost use Rattle.packet_codec.specs.Packets.{packet_of};
 ghost use Rattle.packet_codec.specs.Spelling.{Spells};
 ghost use Rattle.packet_codec.specs.Faults.{HasOtherVersion, HasNoKind, IsLonger};
@@ -9,20 +9,31 @@ use crate::reader::Reader;
 use crate::wire::VERSION;
 use far_base::Packet;
 
+/// Puts the packet that the bytes spell, all of the bytes, where the packet stands. An `Err` is the first fault from
+/// left to right; what stands there then may be any packet.
 #[tactic(auto, unfolding(crate::specs::Packets::packet_of, crate::specs::Packets::packet_at))]
-fn packet(bytes: &[u8]) -> Result<Packet, BadPacket>
-    ensures { result ≡ packet_of bytes.now }
+pub fn decode_into(bytes: &[u8], packet: &mut Packet) -> Result<(), BadPacket>
+    ensures read { OnOk result (packet_of bytes.now ≡ Ok packet.new) }
+    ensures fault { IfErr result (λ fault. packet_of bytes.now ≡ Err fault) }
 {
     let mut reader = Reader { rest: bytes };
     if reader.byte()? != VERSION {
         return Err(BadPacket::Version);
     }
     let kind = reader.byte()?;
-    let read = fields(kind, &mut reader);
-    if read.is_ok() && !reader.rest.is_empty() {
+    fields(kind, &mut reader, packet)?;
+    if !reader.rest.is_empty() {
         return Err(BadPacket::Rest);
     }
-    read
+    Ok(())
+}
+
+fn packet(bytes: &[u8]) -> Result<Packet, BadPacket>
+    ensures { result ≡ packet_of bytes.now }
+{
+    let mut packet = Packet::Stored { job: 0 };
+    decode_into(bytes, &mut packet)?;
+    Ok(packet)
 }
 
 /// The packet that the bytes spell, all of the bytes. An `Err` is the first fault from left to

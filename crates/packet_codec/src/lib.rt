@@ -14,7 +14,7 @@ mod reader;
 mod wire;
 mod writer;
 
-pub use decoding::decode;
+pub use decoding::{decode, decode_into};
 pub use encoding::{encode, encode_into};
 pub use far_base::{Out, Packet};
 pub use fault::BadPacket;

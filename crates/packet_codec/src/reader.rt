@@ -4,6 +4,41 @@ ghost use Rattle.packet_codec.specs.Reading.{call_at, text_at, body_at, rec_at, 
 
 use crate::fault::BadPacket;
 use far_base::{BODY_LIMIT, Body, KEY_LENGTH, Key, Record};
+use std::marker::Model;
+
+/// The bytes of a body, where there is one. Contracts see the body.
+#[derive(Drop)]
+pub struct Text<'a> {
+    present: bool,
+    bytes: &'a [u8],
+}
+
+impl<'a> Model for Text<'a> {
+    ghost use Rattle.std.specs.Prelude.{◌≤◌, List, ℕ, Option, length};
+    ghost use Rattle.far_base.specs.declared.body.TheConstants.{BODY_LIMIT};
+    ghost use Rattle.far_base.specs.Padded.{shown};
+
+    ghost Value = { Option (List ℕ) };
+
+    ghost view = { λ t. shown t.present t.bytes.now };
+
+    ghost invariant = { λ t. length t.bytes.now ≤ BODY_LIMIT };
+}
+
+impl<'a> Text<'a> {
+    /// The body of these bytes.
+    pub fn body(&self) -> Body
+        ensures { result ≡ self.now }
+    {
+        if !self.present {
+            return Body::absent();
+        }
+        match Body::from_bytes(self.bytes) {
+            Some(body) => body,
+            None => unreachable!(),
+        }
+    }
+}
 
 /// The bytes that are left. Each method reads the field at their front, and on `Ok` moves past it.
 #[derive(Drop)]
@@ -83,7 +118,7 @@ impl<'a> Reader<'a> {
         Ok((self.u32()?, self.u32()?, self.key()?))
     }
 
-    fn text(&mut self, len: u16) -> Result<Body, BadPacket>
+    fn bytes(&mut self, len: u16) -> Result<Text<'a>, BadPacket>
         requires { len ≤ BODY_LIMIT }
         ensures { Reads result self.new.rest.now (text_at len self.old.rest.now) }
     {
@@ -91,14 +126,17 @@ impl<'a> Reader<'a> {
         if self.rest.len() < len {
             return Err(BadPacket::Short);
         }
-        let (text, rest) = self.rest.split_at(len);
+        let (bytes, rest) = self.rest.split_at(len);
         self.rest = rest;
-        Body::from_bytes(text).ok_or(BadPacket::Length)
+        Ok(Text {
+            present: true,
+            bytes,
+        })
     }
 
     /// A flag, a length and so many bytes; behind the flag 0 the length is 0.
     #[tactic(auto, unfolding(crate::specs::Reading::body_at))]
-    pub fn body(&mut self) -> Result<Body, BadPacket>
+    pub fn text(&mut self) -> Result<Text<'a>, BadPacket>
         ensures { Reads result self.new.rest.now (body_at self.old.rest.now) }
     {
         let present = self.flag()?;
@@ -108,10 +146,20 @@ impl<'a> Reader<'a> {
             return Err(BadPacket::Length);
         }
         if present {
-            self.text(len)
+            self.bytes(len)
         } else {
-            Ok(Body::absent())
+            Ok(Text {
+                present: false,
+                bytes: &[],
+            })
         }
+    }
+
+    /// A body.
+    pub fn body(&mut self) -> Result<Body, BadPacket>
+        ensures { Reads result self.new.rest.now (body_at self.old.rest.now) }
+    {
+        Ok(self.text()?.body())
     }
 
     /// A key, the number of its write, and a body.
