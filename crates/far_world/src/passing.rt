@@ -6,7 +6,7 @@ ghost use Rattle.far_world.specs.Passing.{number_note, number_noted, numbered_by
 
 use crate::turn::Turn;
 use far_base::{Body, LogEntry, Out, Packet};
-use switch_core::Switch;
+use switch_core::{Emit, Switch};
 
 /// Notes the number that a write of this operation got, where the packet that left for it has one.
 fn note_number(op: u32, packet: &Packet, turn: &mut Turn)
@@ -130,7 +130,8 @@ pub(crate) fn pass_through<S: Switch>(switch: &mut S, packet: &Packet, turn: &mu
     ensures notes { turn.new.notes.items ≡ turn.old.notes.items ++ model.pass_notes packet.now (model.pass
         (S.seen switch.old) packet.now) }
 {
-    let emit = switch.pass(packet);
+    let mut emit = Emit::none();
+    switch.pass_into(packet, &mut emit);
     turn.send_if(&emit.first);
     turn.send_if(&emit.second);
     note_numbered(packet, &emit.first, turn);

@@ -494,6 +494,10 @@ impl Switch for PlainSwitch {
         }
     }
 
+    fn pass_into(&mut self, packet: &Packet, emit: &mut Emit) {
+        *emit = self.pass(packet);
+    }
+
     fn reset(&mut self, epoch: u32, counter: u64) {
         self.epoch = epoch;
         self.counter = counter;

@@ -45,6 +45,15 @@ pub trait Switch {
         ensures first { result.first ≡ (model.pass (seen self.old) packet.now).first }
         ensures second { result.second ≡ (model.pass (seen self.old) packet.now).second };
 
+    /// One pass of a packet, as `pass`. What leaves is put into an `emit` with nothing in it.
+    fn pass_into(&mut self, packet: &Packet, emit: &mut Emit)
+        requires room { (seen self.old).counter + 1 < 2 ^ 64 }
+        requires no_first { emit.old.first ≡ None }
+        requires no_second { emit.old.second ≡ None }
+        ensures view { seen self.new ≡ (model.pass (seen self.old) packet.now).view }
+        ensures first { emit.new.first ≡ (model.pass (seen self.old) packet.now).first }
+        ensures second { emit.new.second ≡ (model.pass (seen self.old) packet.now).second };
+
     /// Leaves the opening view of the config that the switch has. It takes no memory.
     fn reset(&mut self, epoch: u32, counter: u64)
         ensures { seen self.new ≡ opening_view (seen self.old).config epoch counter };

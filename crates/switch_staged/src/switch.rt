@@ -98,6 +98,10 @@ impl Switch for StagedSwitch {
         emit
     }
 
+    fn pass_into(&mut self, packet: &Packet, emit: &mut Emit) {
+        self.visit_all(packet, emit);
+    }
+
     fn reset(&mut self, epoch: u32, counter: u64) {
         self.gate.reset(Gate::opening(epoch, counter));
         self.lookup.clear();
