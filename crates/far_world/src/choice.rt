@@ -1,5 +1,5 @@
-ghost use Rattle.std.specs.Prelude.{◌≡◌, ◌+◌, ◌<◌, ◌≤◌, ◌^◌, ◌++◌, length, false, true, Some, is_some, slice_get, not, take};
-ghost use Rattle.std.specs.Prelude.{slice_index_or, nat_eq, ◌&&◌, if◌then◌else◌};
+ghost use Rattle.std.specs.Prelude.{◌≡◌, ◌+◌, ◌<◌, ◌≤◌, ◌^◌, ◌++◌, length, false, true, Some, is_some, slice_get, not};
+ghost use Rattle.std.specs.Prelude.{slice_index_or, take, nat_eq, ◌&&◌, if◌then◌else◌};
 ghost use Rattle.std.specs.List.{count_by, list_all};
 ghost use Rattle.far_base.specs.Limits.{IsPlan, due_number};
 ghost use Rattle.far_base.specs.declared.event.Event.{Event};

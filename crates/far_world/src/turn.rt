@@ -1,5 +1,5 @@
 ghost use Rattle.std.specs.Prelude.{◌≡◌, ◌+◌, ◌-◌, ◌^◌, ◌<◌, ◌≤◌, ◌++◌, [], ◌∷◌, length, vec_len, vec_capacity};
-ghost use Rattle.std.specs.Prelude.{option_to_list, OnOk};
+ghost use Rattle.std.specs.Prelude.{OnOk};
 ghost use Rattle.far_model.specs.Parties.{messages_from, to_party};
 ghost use Rattle.far_model.specs.Pass.{outs_of};
 ghost use Rattle.far_world.specs.Steps.{Logs};
@@ -73,18 +73,6 @@ impl Turn {
     {
         if let Some(out) = out {
             put_last(&mut self.out, out);
-        }
-    }
-
-    /// Notes what happened where there is something, for which there is room.
-    pub(crate) fn note_if(&mut self, entry: &Option<LogEntry>)
-        requires { vec_len self.old.notes < vec_capacity self.old.notes }
-        ensures notes { self.new.notes.items ≡ self.old.notes.items ++ option_to_list entry.now }
-        ensures out { self.new.out ≡ self.old.out }
-        ensures room { vec_capacity self.new.notes ≡ vec_capacity self.old.notes }
-    {
-        if let Some(entry) = entry {
-            put_last(&mut self.notes, entry);
         }
     }
 

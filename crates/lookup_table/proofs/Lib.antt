@@ -4,3 +4,4 @@ pub mod Drops
 pub mod Adds
 pub mod Places
 pub mod Unique
+pub mod Marks

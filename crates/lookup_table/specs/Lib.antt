@@ -1,3 +1,4 @@
 pub mod Table
 pub mod Binding
 pub mod Sound
+pub mod Marks

@@ -3,6 +3,7 @@
 
 mod cells;
 mod lookup;
+mod mark;
 mod place;
 
 pub use lookup::Lookup;

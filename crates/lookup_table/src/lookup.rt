@@ -1,6 +1,7 @@
 use crate::cells::{
     cell_with, cells_of, count_buckets, free_cell, slot_of_bucket, slot_with, take_out,
 };
+use crate::mark::{MARKS, mark_of};
 use crate::place::{BUCKET_CELLS, Place};
 use far_base::{Key, Memory};
 use std::alloc::{AllocError, Global};
@@ -14,11 +15,14 @@ pub struct Lookup {
     keys: Vec<Option<Key>>,
     cells: Vec<Option<u32>>,
     overflow: Vec<u32>,
+    /// Each key that is bound has its mark here, so that most keys that are not bound are told at once.
+    marks: Vec<bool>,
 }
 
 impl Model for Lookup {
     ghost use Rattle.std.specs.Prelude.{◌≤◌, length, vec_capacity};
     ghost use Rattle.lookup_table.specs.Table.{LookupView};
+    ghost use Rattle.lookup_table.specs.Marks.{AreMarked};
     ghost use Rattle.lookup_table.specs.Sound.{IsSound};
 
     ghost Value = { LookupView };
@@ -29,7 +33,7 @@ impl Model for Lookup {
       bound = t.keys.items;
       cells = t.cells.items;
       overflow = t.overflow.items;
-    }) × (length t.keys.items ≤ vec_capacity t.overflow) };
+    }) × ((length t.keys.items ≤ vec_capacity t.overflow) × AreMarked t.keys.items t.marks.items) };
 }
 
 ghost use Rattle.std.specs.Prelude.{◌≡◌, ◌+◌, ◌*◌, ◌^◌, ◌<◌, ◌≤◌, map, length, replicate, slice_index_or, slice_set};
@@ -66,10 +70,12 @@ impl Lookup {
         let keys = filled(alloc, None, slots as usize)?;
         let cells = filled(alloc, None, BUCKET_CELLS * count_buckets(slots as usize))?;
         let overflow = Vec::with_capacity(alloc, slots as usize)?;
+        let marks = filled(alloc, false, MARKS)?;
         Ok(Lookup {
             keys,
             cells,
             overflow,
+            marks,
         })
     }
 
@@ -83,10 +89,14 @@ impl Lookup {
         key.byte_sum() as usize % count_buckets(self.keys.len())
     }
 
+    /// Where the pair with the key stands. A key without a mark has none.
     fn locate(&self, key: &Key) -> Option<Place>
         ensures { result ≡ place_of key.now self.now }
     {
         if self.keys.is_empty() {
+            return None;
+        }
+        if !self.marks[mark_of(key)] {
             return None;
         }
         let bucket = self.bucket(key);
@@ -184,6 +194,7 @@ impl Lookup {
         ensures bound { self.new.bound ≡ slice_set self.old.bound slot (Some key) }
     {
         let bucket = self.bucket(&key);
+        self.marks[mark_of(&key)] = true;
         self.keys[slot as usize] = Some(key);
         match free_cell(cells_of(&self.cells, bucket)) {
             Some(cell) => self.cells[BUCKET_CELLS * bucket + cell] = Some(slot),
@@ -218,6 +229,7 @@ impl Lookup {
     {
         fill(&mut self.keys, None);
         fill(&mut self.cells, None);
+        fill(&mut self.marks, false);
         self.overflow.clear();
     }
 }

@@ -1,6 +1,7 @@
-ghost use Rattle.std.specs.Prelude.{◌≡◌, ◌≤◌, ◌<◌, ◌++◌, ◌∷◌, [], IfOk, Some};
+ghost use Rattle.std.specs.Prelude.{◌≡◌, ◌≤◌, ◌<◌, ◌++◌, ◌∷◌, [], length, IfOk, OnOk, Some};
+ghost use Rattle.far_base.specs.declared.body.TheConstants.{BODY_LIMIT};
 ghost use Rattle.far_base.specs.declared.plan.TheConstants.{OP_LIMIT, STEP_LIMIT};
-ghost use Rattle.workload.specs.Draws.{after, op_by, key_number, lettered, key_by, body_by, choice_from, op_with};
+ghost use Rattle.workload.specs.Draws.{after, op_by, key_number, lettered, key_by, choice_from, op_with};
 ghost use Rattle.workload.specs.Draws.{ops_from, seeded, orders_by, generated};
 ghost use Rattle.workload.specs.Plain.{IsPlain};
 
@@ -33,44 +34,35 @@ fn key_number(choice: u32, draw: u32) -> u32
     }
 }
 
-fn lettered(alloc: Global, letter: u8, number: u32) -> Result<Vec<u8>, Memory>
-    ensures { IfOk result (λ text. text.items ≡ lettered letter number) }
+/// Makes the text of the letter and the number.
+fn spell(text: &mut Vec<u8>, letter: u8, number: u32) -> Result<(), Memory>
+    ensures { OnOk result (text.new.items ≡ lettered letter number) }
 {
-    let mut text = Vec::new(alloc);
-    put_text(&mut text, &[letter])?;
-    put_number(&mut text, u64::from(number))?;
-    Ok(text)
+    text.clear();
+    put_text(text, &[letter])?;
+    put_number(text, u64::from(number))
 }
 
 #[tactic(auto, using(crate::proofs::Generated::is_key))]
-fn key_of(alloc: Global, number: u32) -> Result<Key, Memory>
+fn key_of(text: &mut Vec<u8>, number: u32) -> Result<Key, Memory>
     requires { number < 2048 }
     ensures { IfOk result (λ key. key ≡ key_by number) }
 {
-    let text = lettered(alloc, b'k', number)?;
-    match Key::from_text(&text) {
+    spell(text, b'k', number)?;
+    match Key::from_text(text) {
         Some(key) => Ok(key),
         None => unreachable!(),
     }
 }
 
-#[tactic(auto, using(crate::proofs::Generated::is_short))]
-fn put_body(alloc: Global, number: u32) -> Result<Body, Memory>
-    ensures { IfOk result (λ body. body ≡ Some (lettered 118 number)) }
+/// The body of these bytes.
+fn body_of(bytes: &[u8]) -> Body
+    requires { length bytes.now ≤ BODY_LIMIT }
+    ensures { result ≡ Some bytes.now }
 {
-    let text = lettered(alloc, b'v', number)?;
-    match Body::from_bytes(&text) {
-        Some(body) => Ok(body),
+    match Body::from_bytes(bytes) {
+        Some(body) => body,
         None => unreachable!(),
-    }
-}
-
-fn body_of(alloc: Global, op: Op, number: u32) -> Result<Body, Memory>
-    ensures { IfOk result (λ body. body ≡ body_by op number) }
-{
-    match op {
-        Op::Put => put_body(alloc, number),
-        Op::Get | Op::Del => Ok(Body::absent()),
     }
 }
 
@@ -99,16 +91,35 @@ fn next_choice(rng: &mut Lcg64Xsh32) -> Choice
     }
 }
 
-fn op_line(alloc: Global, choice: Choice, number: u32) -> Result<OpLine, Memory>
+/// Appends the operation. The text is a place for its key and its body.
+#[tactic(auto, using(crate::proofs::Generated::is_short))]
+fn push_op(lines: &mut Ops, text: &mut Vec<u8>, choice: Choice, number: u32) -> Result<(), Memory>
     requires { choice.key < 2048 }
-    ensures { IfOk result (λ line. line ≡ op_with number choice) }
+    ensures { OnOk result (lines.new ≡ lines.old ++ op_with number choice ∷ []) }
 {
-    Ok(OpLine {
-        client: choice.client,
-        op: choice.op,
-        key: key_of(alloc, choice.key)?,
-        body: body_of(alloc, choice.op, number)?,
-    })
+    let Choice { client, op, key } = choice;
+    let key = key_of(text, key)?;
+    match op {
+        Op::Put => {
+            spell(text, b'v', number)?;
+            let body = body_of(text);
+            lines.push(&OpLine {
+                client,
+                op,
+                key,
+                body,
+            })
+        }
+        Op::Get | Op::Del => {
+            let body = Body::absent();
+            lines.push(&OpLine {
+                client,
+                op,
+                key,
+                body,
+            })
+        }
+    }
 }
 
 #[tactic(auto, unfolding(crate::specs::Draws::seeded))]
@@ -117,10 +128,10 @@ fn ops_of(alloc: Global, start: u64, ops: u32) -> Result<Ops, Memory>
 {
     let mut rng = Lcg64Xsh32::seed_from_u64(start);
     let mut lines = Ops::new(alloc);
+    let mut text = Vec::new(alloc);
     for i in 0..ops {
         let choice = next_choice(&mut rng);
-        let line = op_line(alloc, choice, i + 1)?;
-        lines.push(&line)?;
+        push_op(&mut lines, &mut text, choice, i + 1)?;
     }
     Ok(lines)
 }

@@ -6,6 +6,7 @@ use Rattle.lookup_table.specs.declared.place.Place.TheVariants.{Cell}
 use Rattle.lookup_table.specs.Binding.{dropped_at, spilled_of, slot_at, closed_up}
 use Rattle.lookup_table.specs.Sound.{IsSound, HasPair}
 use Rattle.lookup_table.specs.Table.{LookupView, is_of_bucket, key_at}
+use Rattle.lookup_table.proofs.Marks.{fewer_marked}
 use Rattle.lookup_table.proofs.Places.{drops, cell_dropped}
 use Rattle.lookup_table.proofs.lookup.Lookup.vacate_cell.Goals as goal
 
@@ -22,7 +23,7 @@ invariant_of-self c =
     let e = cell_dropped t c.args.bucket c.args.cell c.in-Some.slot c.slot_of_bucket-spilled.result c.take_out.result c.take_out.new.slots.items there spilled content rest in
     let p : HasPair (Cell c.args.bucket c.args.cell) t = subst (λ (v : LookupView). HasPair (Cell c.args.bucket c.args.cell) v) (sym c.self.view_is) c.requires in
     let l = length-set c.self.inside.keys.items c.in-Some.slot None in
-    (subst IsSound (sym e) (drops p.key t (Cell c.args.bucket c.args.cell) c.self.invariant.0 p.pair).sound, omega (arith, l, c.take_out.ensures.room, c.self.invariant.1))
+    (subst IsSound (sym e) (drops p.key t (Cell c.args.bucket c.args.cell) c.self.invariant.0 p.pair).sound, (omega (arith, l, c.take_out.ensures.room, c.self.invariant.1.0), fewer_marked c.self.inside.keys.items c.self.inside.marks.items c.in-Some.slot c.self.invariant.1.1))
 
 pub returns-in-Some : goal.returns-in-Some
 returns-in-Some c =

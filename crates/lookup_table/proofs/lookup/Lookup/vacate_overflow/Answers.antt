@@ -6,6 +6,7 @@ use Rattle.lookup_table.specs.declared.place.Place.TheVariants.{Overflow}
 use Rattle.lookup_table.specs.Sound.{IsSound, HasPair}
 use Rattle.lookup_table.specs.Table.{LookupView, key_at}
 use Rattle.lookup_table.proofs.Drops.{drops_overflow}
+use Rattle.lookup_table.proofs.Marks.{fewer_marked}
 use Rattle.lookup_table.proofs.Places.{slot_inside}
 use Rattle.lookup_table.proofs.lookup.Lookup.vacate_overflow.Goals as goal
 
@@ -30,5 +31,5 @@ invariant_of-self c =
     let sound = drops_overflow t c.args.at c.remove-slot.result p.key c.self.invariant.0 within (first ∙ is) keyed in
     let l = length-set c.self.inside.keys.items c.remove-slot.result None in (
       subst (λ (xs : List ℕ). IsSound (record { bound = set c.self.inside.keys.items c.remove-slot.result None; cells = c.self.inside.cells.items; overflow = xs })) (sym c.remove-slot.ensures.items) sound,
-      omega (arith, l, c.remove-slot.ensures.capacity, c.self.invariant.1),
+      (omega (arith, l, c.remove-slot.ensures.capacity, c.self.invariant.1.0), fewer_marked c.self.inside.keys.items c.self.inside.marks.items c.remove-slot.result c.self.invariant.1.1),
     )
