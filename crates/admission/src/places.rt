@@ -31,9 +31,9 @@ fn has_key(state: &SlotState, key: &Key) -> bool
 {
     match state {
         SlotState::Free => false,
-        SlotState::Admitting { key: other, .. } => other == key,
-        SlotState::Held { key: other, .. } => other == key,
-        SlotState::Evicting { key: other, .. } => other == key,
+        SlotState::Admitting { key: other, .. }
+        | SlotState::Held { key: other, .. }
+        | SlotState::Evicting { key: other, .. } => other == key,
     }
 }
 
