@@ -1,6 +1,7 @@
 //! Keepers of the servers' records in memory, and what a server does with a packet over any keeper.
 #![tactic(auto)]
 
+mod hashed;
 mod map_keeper;
 mod records;
 mod scripted;
