@@ -1,17 +1,42 @@
 -- A key is its text and zeros.
-use Rattle.std.proofs.Common.{◌≡◌, ℕ, zero, suc, ◌+◌, ◌*◌, ◌-◌, ◌<◌, Bool, true, false, ◌&&◌, List, [], ◌∷◌, ◌++◌, length, drop, get_or, replicate, refl, arith, add-one}
+use Rattle.std.proofs.Common.{◌≡◌, ℕ, zero, suc, ◌+◌, ◌*◌, ◌-◌, ◌<◌, ◌≤◌, Bool, true, false, ◌&&◌, ◌||◌, List, [], ◌∷◌, ◌++◌, length, drop, get_or, replicate, refl, sym, ◌∙◌, subst, arith, add-one}
 use Rattle.std.specs.Prelude.{nat_le, nat_eq}
 use Rattle.std.specs.List.{list_all}
-use Rattle.std.proofs.lemmas.List.{length-append, length-replicate}
+use Rattle.std.proofs.lemmas.List.{length-append, length-replicate, get_or-drop}
 use Rattle.std.proofs.Math.Seq.{drop-cons}
 use Rattle.std.proofs.lemmas.Bool.Decides.{nat_tests}
-use Rattle.far_base.specs.Key.{is_visible, is_key_text, is_key, all_zero, visible_then_zeros, starts_visible, weighted_sum}
+use Rattle.far_base.specs.Key.{is_visible, is_key_text, is_key, all_zero, visible_then_zeros, starts_visible, fits_before, weighted_sum}
 use Rattle.far_base.specs.Padded.{padded}
 use Rattle.far_base.specs.declared.key.TheConstants.{KEY_LENGTH}
 
 zeros : (k : ℕ) → all_zero (replicate k 0) ≡ true
 zeros zero = refl
 zeros (suc k) = zeros k
+
+or_false : (a : Bool) → (a || false) ≡ a
+or_false true = refl
+or_false false = refl
+
+not_zero : (b : ℕ) → nat_eq (suc b) 0 ≡ false
+not_zero b = grind (arith, nat_tests)
+
+fits_front : (b : ℕ) (bs : List ℕ) → visible_then_zeros (b ∷ bs) ≡ (fits_before b (get_or bs 0 0) && visible_then_zeros bs)
+fits_front zero [] = refl
+fits_front zero (zero ∷ bs) = refl
+fits_front zero (suc b ∷ bs) = rw (not_zero b) refl
+fits_front (suc b) bs = rw (not_zero b, or_false (is_visible (suc b))) refl
+
+fits_at : (bytes : List ℕ) (at next : ℕ) (fit : Bool) → at < length bytes → next ≡ get_or bytes (suc at) 0 → fit ≡ visible_then_zeros (drop (suc at) bytes) → (fits_before (get_or bytes at 0) next && fit) ≡ visible_then_zeros (drop at bytes)
+fits_at bytes at next fit l n f =
+    let is : next ≡ get_or (drop (suc at) bytes) 0 0 = n ∙ (subst (λ k. get_or bytes (suc at) 0 ≡ get_or bytes k 0) (omega (arith)) refl ∙ sym (get_or-drop (suc at) bytes 0 0)) in
+    rw (drop-cons bytes at 0 l, fits_front (get_or bytes at 0) (drop (suc at) bytes), sym is, sym f) refl
+
+-- what stands one byte earlier fits where that byte fits what is behind it
+pub fits_next : (bytes : List ℕ) (at next : ℕ) (fit : Bool) → 0 < at → at ≤ length bytes → next ≡ get_or bytes at 0 → fit ≡ visible_then_zeros (drop at bytes) → (fits_before (get_or bytes (at - 1) 0) next && fit) ≡ visible_then_zeros (drop (at - 1) bytes)
+fits_next bytes zero next fit h l n f = absurd (omega (arith, h))
+fits_next bytes (suc at) next fit h l n f =
+    let is : at ≡ suc at - 1 = omega (arith) in
+    subst (λ k. (fits_before (get_or bytes k 0) next && fit) ≡ visible_then_zeros (drop k bytes)) is (fits_at bytes at next fit (omega (arith, l)) n f)
 
 -- the factor moves on with the byte
 pub weighted_sum-drop : (bytes : List ℕ) (i : ℕ) → i < length bytes → weighted_sum (i + 1) (drop i bytes) ≡ (i + 1) * get_or bytes i 0 + weighted_sum (i + 1 + 1) (drop (i + 1) bytes)

@@ -1,5 +1,6 @@
 -- What a key is made of.
-use Rattle.std.specs.Prelude.{ℕ, zero, suc, ◌+◌, ◌*◌, Bool, true, false, ◌&&◌, nat_le, nat_eq, List, [], ◌∷◌, length, slice_index}
+use Rattle.std.specs.Prelude.{ℕ, zero, suc, ◌+◌, ◌*◌, Bool, true, false, ◌&&◌, ◌||◌, nat_le, nat_eq}
+use Rattle.std.specs.Prelude.{List, [], ◌∷◌, length, slice_index}
 use Rattle.std.specs.Int.{from_be_bytes, w64}
 use Rattle.std.specs.List.{list_all}
 use Rattle.far_base.specs.declared.key.TheConstants.{KEY_LENGTH}
@@ -20,6 +21,10 @@ abbrev pub visible_then_zeros : List ℕ → Bool
 visible_then_zeros [] = true
 visible_then_zeros (zero ∷ bs) = all_zero bs
 visible_then_zeros (suc b ∷ bs) = is_visible (suc b) && visible_then_zeros bs
+
+-- a byte that may stand before this one: a visible one, or a zero before a zero
+abbrev pub fits_before : ℕ → ℕ → Bool
+fits_before b next = is_visible b || (nat_eq b 0 && nat_eq next 0)
 
 abbrev pub starts_visible : List ℕ → Bool
 starts_visible [] = false

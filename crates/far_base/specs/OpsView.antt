@@ -23,7 +23,14 @@ lines_in bytes shorts = map (line_in bytes) shorts
 
 -- the operation, with its body put behind so many bytes
 abbrev pub short_of : ℕ → OpLine → Short
-short_of at line = record { client = line.client; op = line.op; key = line.key; present = is_some line.body; len = length (text_of line.body); at = at }
+short_of at line = record {
+  client = line.client;
+  op = line.op;
+  key = line.key;
+  present = is_some line.body;
+  len = length (text_of line.body);
+  at = at;
+}
 
 -- each body stands within so many bytes
 abbrev pub AreWithin : ℕ → List Short → Type 0

@@ -25,32 +25,37 @@ impl Model for Key {
     ghost inverse = { λ bytes. record { bytes = bytes } };
 }
 
-ghost use Rattle.std.specs.Prelude.{◌≡◌, ◌+◌, ◌*◌, ◌%◌, ◌≤◌, ◌<◌, ◌↔◌, length, IsTrue, IfSome, IsSome, Some, sum, nat_eq, refl};
+ghost use Rattle.std.specs.Prelude.{◌≡◌, ◌+◌, ◌*◌, ◌%◌, ◌≤◌, ◌<◌, ◌↔◌, length, IsTrue, IfSome, IsSome, Some, sum};
+ghost use Rattle.std.specs.Prelude.{nat_eq, refl};
 ghost use Rattle.std.specs.Ordering.{nat_cmp};
-ghost use Rattle.std.specs.Cmp.Lexicographic.{pointwise, slice_cmp, nat_list_eq_equiv, nat_list_cmp_total, texts_ties, texts_po};
+ghost use Rattle.std.specs.Cmp.Lexicographic.{pointwise, slice_cmp, nat_list_eq_equiv, nat_list_cmp_total};
+ghost use Rattle.std.specs.Cmp.Lexicographic.{texts_ties, texts_po};
 ghost use Rattle.std.specs.Cmp.{partial_equiv_from_equiv};
 ghost use Rattle.std.specs.List.{list_all};
-ghost use Rattle.far_base.specs.Key.{is_key, is_key_text, is_visible, all_zero, visible_then_zeros, key_text};
-ghost use Rattle.far_base.specs.Key.{weighted_sum, front_of, back_of};
+ghost use Rattle.far_base.specs.Key.{is_key, is_key_text, is_visible, visible_then_zeros, key_text};
+ghost use Rattle.far_base.specs.Key.{fits_before, weighted_sum, front_of, back_of};
 ghost use Rattle.far_base.specs.Padded.{padded};
 
-/// Whether the bytes are visible ones and then zeros. It goes from the last byte to the first, so
-/// that no step depends on where the zeros begin.
+/// Whether the byte may stand before this one.
+fn fits(byte: u8, next: u8) -> bool
+    ensures { result ≡ fits_before byte next }
+{
+    (33 <= byte && byte <= 126) || (byte == 0 && next == 0)
+}
+
+/// Whether the bytes are visible ones and then zeros: each is visible, or zero with no other than zeros behind it. No
+/// step depends on what the last one found but for its byte, so that all can be taken at once.
 fn are_visible_then_zeros(bytes: &[u8; KEY_LENGTH]) -> bool
     ensures { result ≡ visible_then_zeros bytes.now }
 {
-    let mut zeros = true;
+    let mut next = 0;
     let mut fit = true;
     let mut at = KEY_LENGTH;
     while at > 0 {
         at -= 1;
         let byte = bytes[at];
-        fit = if byte == 0 {
-            zeros
-        } else {
-            33 <= byte && byte <= 126 && fit
-        };
-        zeros = zeros && byte == 0;
+        fit = fits(byte, next) && fit;
+        next = byte;
     }
     fit
 }

@@ -36,7 +36,8 @@ impl Model for Ops {
     ghost invariant = { λ o. AreWithin (length o.bytes.items) o.lines.items };
 }
 
-ghost use Rattle.std.specs.Prelude.{◌≡◌, ◌≤◌, ◌<◌, ◌++◌, [], ◌∷◌, length, map, take, drop, slice_get, Some, OnOk, OnErr, IfOk};
+ghost use Rattle.std.specs.Prelude.{◌≡◌, ◌≤◌, ◌<◌, ◌++◌, [], ◌∷◌, length, map, take, drop};
+ghost use Rattle.std.specs.Prelude.{slice_get, Some, OnOk, OnErr, IfOk};
 ghost use Rattle.far_base.specs.declared.plan.OpLine.{OpLine};
 ghost use Rattle.far_base.specs.OpsView.{body_in, short_of};
 ghost use Rattle.far_base.specs.Padded.{text_of};

@@ -83,7 +83,8 @@ pub(crate) fn last_writes(
     table: &[Told],
     places: &[Placed],
 ) -> Result<Vec<Record>, Memory>
-    ensures { IfOk result (λ records. records.items ≡ map (record_of bytes.now) (entries_after table.now [] places.now)) }
+    ensures { IfOk result (λ records. records.items ≡ map (record_of bytes.now)
+        (entries_after table.now [] places.now)) }
 {
     let last = writes_of(alloc, table, places)?;
     records_of(alloc, bytes, &last)

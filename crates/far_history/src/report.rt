@@ -7,7 +7,8 @@ ghost use Rattle.far_history.specs.Told.{unheard, op_told, answer_told};
 ghost use Rattle.far_history.specs.RoomyLog.{log_view};
 ghost use Rattle.far_history.specs.Stored.{body_in};
 ghost use Rattle.far_history.specs.Report as words;
-ghost use Rattle.far_history.specs.Rows.{row_text, spaced, history_by_rows, stored_control, stored_text, control_by_stored};
+ghost use Rattle.far_history.specs.Rows.{row_text, spaced, history_by_rows, stored_control, stored_text};
+ghost use Rattle.far_history.specs.Rows.{control_by_stored};
 
 use crate::last_writes::last_writes;
 use crate::log::Log;
@@ -78,7 +79,8 @@ fn put_words(
 ) -> Result<(), Memory>
     ensures { OnOk result (out.new.items ≡ out.old.items ++ text_line
         (decimal place.now.op ∷ decimal client ∷ words.now.kind.now ∷ key_text words.now.key.now ∷ decimal place.now.num
-        ∷ body_word (body_in bytes.now words.now.body) ∷ words.now.source.now ∷ decimal sent_at ∷ decimal answered ∷ [])) }
+        ∷ body_word (body_in bytes.now words.now.body) ∷ words.now.source.now
+        ∷ decimal sent_at ∷ decimal answered ∷ [])) }
 {
     put_spaced(
         out,

@@ -15,8 +15,9 @@ pub struct Lookup {
     keys: Vec<Option<Key>>,
     cells: Vec<Option<u32>>,
     overflow: Vec<u32>,
-    /// Each key that is bound has its mark here, so that most keys that are not bound are told at once.
-    marks: Vec<bool>,
+    /// Under each key's mark the slot to which a key of that mark was bound last: so most keys that are not bound are
+    /// told at once, and most that are bound found at once.
+    marks: Vec<Option<u32>>,
 }
 
 impl Model for Lookup {
@@ -42,7 +43,7 @@ ghost use Rattle.far_model.specs.View.{bound_place, bind_key, unbound};
 ghost use Rattle.lookup_table.specs.declared.place.Place.TheVariants.{Cell, Overflow};
 ghost use Rattle.lookup_table.specs.Binding.{with_binding, without_key, without_slot, with_pair, dropped_at};
 ghost use Rattle.lookup_table.specs.Sound.{IsSound, IsPairAt, IsAlone, IsOwn, IsPacked, HasPair, Nowhere, held_at};
-ghost use Rattle.lookup_table.specs.Table.{no_pairs, bucket_in, bucket_count, place_of};
+ghost use Rattle.lookup_table.specs.Table.{no_pairs, bucket_in, bucket_count, key_at, place_of};
 
 fn filled<T: Copy>(alloc: Global, item: T, count: usize) -> Result<Vec<T>, AllocError>
     ensures { IfOk result (λ items. items.items ≡ replicate count item) }
@@ -70,7 +71,7 @@ impl Lookup {
         let keys = filled(alloc, None, slots as usize)?;
         let cells = filled(alloc, None, BUCKET_CELLS * count_buckets(slots as usize))?;
         let overflow = Vec::with_capacity(alloc, slots as usize)?;
-        let marks = filled(alloc, false, MARKS)?;
+        let marks = filled(alloc, None, MARKS)?;
         Ok(Lookup {
             keys,
             cells,
@@ -96,7 +97,7 @@ impl Lookup {
         if self.keys.is_empty() {
             return None;
         }
-        if !self.marks[mark_of(key)] {
+        if self.marks[mark_of(key)].is_none() {
             return None;
         }
         let bucket = self.bucket(key);
@@ -126,11 +127,25 @@ impl Lookup {
         self.locate(key)
     }
 
+    /// The slot under the key's mark, where it is bound to the key.
+    fn marked(&self, key: &Key) -> Option<u32>
+        ensures { IfSome result (λ slot. key_at self.now.bound slot ≡ Some key.now) }
+    {
+        let slot = self.marks[mark_of(key)]?;
+        match self.keys.get(slot as usize) {
+            Some(Some(found)) if found == key => Some(slot),
+            _ => None,
+        }
+    }
+
     /// The slot that is bound to the key. `None` exactly where none is.
     pub fn find(&self, key: &Key) -> Option<u32>
         ensures slot { result ≡ bound_place key.now self.now.bound }
         ensures there { IfSome result (λ slot. slot < length self.now.bound) }
     {
+        if let Some(slot) = self.marked(key) {
+            return Some(slot);
+        }
         match self.place(key) {
             Some(Place::Cell { bucket, cell }) => {
                 self.cells[BUCKET_CELLS * bucket as usize + cell as usize]
@@ -194,7 +209,7 @@ impl Lookup {
         ensures bound { self.new.bound ≡ slice_set self.old.bound slot (Some key) }
     {
         let bucket = self.bucket(&key);
-        self.marks[mark_of(&key)] = true;
+        self.marks[mark_of(&key)] = Some(slot);
         self.keys[slot as usize] = Some(key);
         match free_cell(cells_of(&self.cells, bucket)) {
             Some(cell) => self.cells[BUCKET_CELLS * bucket + cell] = Some(slot),
@@ -229,7 +244,7 @@ impl Lookup {
     {
         fill(&mut self.keys, None);
         fill(&mut self.cells, None);
-        fill(&mut self.marks, false);
+        fill(&mut self.marks, None);
         self.overflow.clear();
     }
 }

@@ -1,5 +1,5 @@
-use Rattle.std.proofs.Common.{◌≡◌, ◌≤◌, drop}
-use Rattle.far_base.specs.Key.{all_zero, visible_then_zeros}
+use Rattle.std.proofs.Common.{◌≡◌, ◌≤◌, drop, get_or}
+use Rattle.far_base.specs.Key.{visible_then_zeros}
 use Rattle.far_base.specs.declared.key.TheConstants.{KEY_LENGTH}
 use Rattle.far_base.proofs.key.are_visible_then_zeros.Given as goal
 
@@ -7,7 +7,7 @@ use Rattle.far_base.proofs.key.are_visible_then_zeros.Given as goal
 abbrev pub invariant-loop-at : goal.invariant-loop-at
 invariant-loop-at l = record {
   within : l.at ≤ KEY_LENGTH;
-  zeros : l.zeros ≡ all_zero (drop l.at l.bytes);
+  next : l.next ≡ get_or l.bytes l.at 0;
   fit : l.fit ≡ visible_then_zeros (drop l.at l.bytes);
 }
 
