@@ -212,3 +212,7 @@ cell_dropped t bucket cell s spilled content rest there e f g =
 
 pub slot_inside : (key : List ℕ) (bound : List (Option (List ℕ))) (x : ℕ) → key_at bound x ≡ Some key → x < length bound
 slot_inside key bound x e = slot_there bound x key e
+
+-- a slot that has the key is the one that is bound to it
+pub keyed_is_bound : (key : List ℕ) (t : LookupView) (slot : ℕ) → IsSound t → key_at t.bound slot ≡ Some key → Some slot ≡ bound_place key t.bound
+keyed_is_bound key t slot h e = sym (place_is key t.bound slot e (λ other f. h.apart other slot key f e))

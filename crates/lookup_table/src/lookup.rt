@@ -43,7 +43,7 @@ ghost use Rattle.far_model.specs.View.{bound_place, bind_key, unbound};
 ghost use Rattle.lookup_table.specs.declared.place.Place.TheVariants.{Cell, Overflow};
 ghost use Rattle.lookup_table.specs.Binding.{with_binding, without_key, without_slot, with_pair, dropped_at};
 ghost use Rattle.lookup_table.specs.Sound.{IsSound, IsPairAt, IsAlone, IsOwn, IsPacked, HasPair, Nowhere, held_at};
-ghost use Rattle.lookup_table.specs.Table.{no_pairs, bucket_in, bucket_count, key_at, place_of};
+ghost use Rattle.lookup_table.specs.Table.{no_pairs, bucket_in, bucket_count, place_of};
 
 fn filled<T: Copy>(alloc: Global, item: T, count: usize) -> Result<Vec<T>, AllocError>
     ensures { IfOk result (λ items. items.items ≡ replicate count item) }
@@ -129,7 +129,8 @@ impl Lookup {
 
     /// The slot under the key's mark, where it is bound to the key.
     fn marked(&self, key: &Key) -> Option<u32>
-        ensures { IfSome result (λ slot. key_at self.now.bound slot ≡ Some key.now) }
+        ensures slot { IfSome result (λ slot. Some slot ≡ bound_place key.now self.now.bound) }
+        ensures there { IfSome result (λ slot. slot < length self.now.bound) }
     {
         let slot = self.marks[mark_of(key)]?;
         match self.keys.get(slot as usize) {
@@ -138,20 +139,28 @@ impl Lookup {
         }
     }
 
-    /// The slot that is bound to the key. `None` exactly where none is.
-    pub fn find(&self, key: &Key) -> Option<u32>
+    /// The slot at the place of the pair with the key.
+    fn placed(&self, key: &Key) -> Option<u32>
         ensures slot { result ≡ bound_place key.now self.now.bound }
         ensures there { IfSome result (λ slot. slot < length self.now.bound) }
     {
-        if let Some(slot) = self.marked(key) {
-            return Some(slot);
-        }
         match self.place(key) {
             Some(Place::Cell { bucket, cell }) => {
                 self.cells[BUCKET_CELLS * bucket as usize + cell as usize]
             }
             Some(Place::Overflow { at }) => Some(self.overflow[at as usize]),
             None => None,
+        }
+    }
+
+    /// The slot that is bound to the key. `None` exactly where none is.
+    pub fn find(&self, key: &Key) -> Option<u32>
+        ensures slot { result ≡ bound_place key.now self.now.bound }
+        ensures there { IfSome result (λ slot. slot < length self.now.bound) }
+    {
+        match self.marked(key) {
+            Some(slot) => Some(slot),
+            None => self.placed(key),
         }
     }
 

@@ -6,7 +6,7 @@ use Rattle.lookup_table.specs.Sound.{IsPairAt}
 use Rattle.lookup_table.specs.Table.{LookupView}
 use Rattle.lookup_table.proofs.Bound.{place_none}
 use Rattle.lookup_table.proofs.Places.{slot_inside}
-use Rattle.lookup_table.proofs.lookup.Lookup.find.Goals as goal
+use Rattle.lookup_table.proofs.lookup.Lookup.placed.Goals as goal
 
 pub returns-in-Some-Overflow-clause-there : goal.returns-in-Some-Overflow-clause-there
 returns-in-Some-Overflow-clause-there c =
