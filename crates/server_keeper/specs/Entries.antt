@@ -1,6 +1,7 @@
 -- What a map of a server's records holds.
 use Rattle.far_base.specs.declared.record.Versioned.{Versioned}
 use Rattle.std.specs.Prelude.{ℕ, Bool, List, map}
+use Rattle.std.specs.Borrow.{Bor}
 use Rattle.std.specs.List.{list_any}
 use Rattle.std.specs.List.Sorted.{IsSortedByKey}
 use Rattle.std.specs.Ordering.{nat_cmp}
@@ -20,6 +21,10 @@ has_key records key = list_any (λ (r : Record). same_key r.key key) records
 abbrev pub keys_in : List Record → List (List ℕ)
 keys_in rs = map (λ (r : Record). r.key) rs
 
--- no record's key comes before that of the record in front of it
-abbrev pub IsSortedByKeys : List Record → Type 0
-IsSortedByKeys records = IsSortedByKey (λ (r : Record). r.key) (slice_cmp nat_cmp) records
+-- a key beside what a map holds for it is a record of the key
+abbrev pub record_of_held : List ℕ × Bor Versioned → Record
+record_of_held e = record_of_entry (e.0, e.1.now)
+
+-- no key comes before that in front of it
+abbrev pub IsSortedByKeys : List (List ℕ × Bor Versioned) → Type 0
+IsSortedByKeys entries = IsSortedByKey (λ (e : List ℕ × Bor Versioned). e.0) (slice_cmp nat_cmp) entries

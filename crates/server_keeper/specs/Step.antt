@@ -30,3 +30,7 @@ number_of_reply (GetRep caller op key tag num body) = num
 number_of_reply (WriteRep caller op key num body) = num
 number_of_reply (TopIs round server top) = top
 number_of_reply _ = 0
+
+-- the reply to a write, where the server has this record
+abbrev pub reply_with : ℕ → ℕ → Record → Packet
+reply_with caller op held = WriteRep caller op held.key held.num held.body

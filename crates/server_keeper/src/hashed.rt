@@ -18,8 +18,7 @@ impl Model for Hashed {
     ghost inverse = { λ bytes. record { key = bytes } };
 }
 
-ghost use Rattle.std.specs.Prelude.{nat_eq};
-ghost use Rattle.std.specs.Hash as fed;
+ghost use Rattle.std.specs.Prelude.{nat_eq, [], ◌∷◌};
 ghost use Rattle.std.specs.Cmp.Lexicographic.{pointwise, nat_list_eq_equiv};
 ghost use Rattle.std.specs.Cmp.{partial_equiv_from_equiv};
 ghost use Rattle.std.specs.Cmp.Rules.{hashing};
@@ -39,12 +38,13 @@ impl Eq for Hashed {
     ghost laws = { nat_list_eq_equiv };
 }
 
+// The bytes go to the hasher all at once: each of its steps waits for the one before.
 impl Hash for Hashed {
-    ghost hash_input = { fed.slice fed.u8 };
+    ghost hash_input = { λ key. key ∷ [] };
 
     ghost respects_eq = { Prim.search (hashing, rules) };
 
     fn hash<H: Hasher>(&self, state: &mut H) {
-        self.key.bytes().hash(state);
+        state.write(self.key.bytes());
     }
 }

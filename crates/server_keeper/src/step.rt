@@ -1,10 +1,10 @@
 ghost use Rattle.std.specs.Prelude.{◌≡◌, ◌<◌, ◌≤◌, max, Some, IfOk, IfSome, OnOk, OnErr, IsErrOf};
 ghost use Rattle.std.specs.Option.{option_map};
-ghost use Rattle.far_model.specs.Replies.{IsReplyTo};
+ghost use Rattle.far_model.specs.Replies.{IsReplyTo, IsWriteReply};
 ghost use Rattle.far_model.specs.Servers.{server_reply, stored};
 ghost use Rattle.far_outside.specs.Faults.{Rose};
 ghost use Rattle.far_outside.specs.Keeping.{records_of, record_for, put_at};
-ghost use Rattle.server_keeper.specs.Step.{IsForServer, after_packet, number_in, number_of_reply};
+ghost use Rattle.server_keeper.specs.Step.{IsForServer, after_packet, number_in, number_of_reply, reply_with};
 
 use far_base::{Packet, Record};
 use far_outside::{Keeper, KeeperFault};
@@ -34,16 +34,35 @@ impl From<KeeperFault> for StepFault {
     }
 }
 
-/// Keeps the record at the server where its number is greater, and answers the record that the
-/// server has then. The put is the last call on the keeper.
-fn keep<K: Keeper>(keeper: &mut K, server: u32, rec: Record) -> Result<Record, StepFault>
+/// The reply to a write, which tells the record that the server has.
+fn write_reply(caller: u32, op: u32, held: &Record) -> Packet
+    ensures { result ≡ reply_with caller op held.now }
+{
+    Packet::WriteRep {
+        caller,
+        op,
+        key: held.key,
+        num: held.num,
+        body: held.body,
+    }
+}
+
+/// Keeps the record at the server where its number is greater, and answers the write with the record
+/// that the server has then. The put is the last call on the keeper.
+fn keep<K: Keeper>(
+    keeper: &mut K,
+    server: u32,
+    caller: u32,
+    op: u32,
+    rec: &Record,
+) -> Result<Packet, StepFault>
     requires { server < K.server_count keeper.old }
-    ensures stored { IfOk result (λ r. IfSome (K.records keeper.old) (λ all. r ≡ record_for (stored
-        (records_of all server) rec) rec.key)) }
-    ensures key { IfOk result (λ r. r.key ≡ rec.key) }
-    ensures bound { IfOk result (λ r. r.num ≤ K.ceiling keeper.new) }
-    ensures records { OnOk result (K.records keeper.new ≡ option_map (put_at server rec) (K.records keeper.old)) }
-    ensures ceiling { OnOk result (K.ceiling keeper.new ≡ max (K.ceiling keeper.old) rec.num) }
+    ensures stored { IfOk result (λ reply. IfSome (K.records keeper.old) (λ all. reply ≡ reply_with caller op
+        (record_for (stored (records_of all server) rec.now) rec.now.key))) }
+    ensures kind { IfOk result (λ reply. IsWriteReply caller op rec.now.key (Some reply)) }
+    ensures bound { IfOk result (λ reply. number_of_reply reply ≤ K.ceiling keeper.new) }
+    ensures records { OnOk result (K.records keeper.new ≡ option_map (put_at server rec.now) (K.records keeper.old)) }
+    ensures ceiling { OnOk result (K.ceiling keeper.new ≡ max (K.ceiling keeper.old) rec.now.num) }
     ensures same_records { OnErr result (K.records keeper.new ≡ K.records keeper.old) }
     ensures same_servers { K.server_count keeper.new ≡ K.server_count keeper.old }
     ensures same_ceiling { OnErr result (K.ceiling keeper.new ≡ K.ceiling keeper.old) }
@@ -51,8 +70,8 @@ fn keep<K: Keeper>(keeper: &mut K, server: u32, rec: Record) -> Result<Record, S
     ensures cause { IsErrOf result StepFault.KeeperFailed → Rose (K.fault_count keeper.old) (K.fault_count keeper.new) }
 {
     let held = keeper.get(server, &rec.key)?;
-    keeper.put(server, &rec)?;
-    Ok(if rec.newer(&held) { rec } else { held })
+    keeper.put(server, rec)?;
+    Ok(write_reply(caller, op, if rec.newer(&held) { rec } else { &held }))
 }
 
 /// The server handles a packet, of the kinds `GetFwd`, `WriteFwd`, `Store` and `TopAsk`, over the
@@ -79,19 +98,19 @@ pub fn server_step<K: Keeper>(
     ensures later { K.fault_count keeper.old ≤ K.fault_count keeper.new }
     ensures cause { IsErrOf result StepFault.KeeperFailed → Rose (K.fault_count keeper.old) (K.fault_count keeper.new) }
 {
-    match *packet {
+    match packet {
         Packet::GetFwd {
             caller,
             op,
             key,
             tag,
         } => {
-            let held = keeper.get(server, &key)?;
+            let held = keeper.get(server, key)?;
             Ok(Packet::GetRep {
-                caller,
-                op,
-                key,
-                tag,
+                caller: *caller,
+                op: *op,
+                key: *key,
+                tag: *tag,
                 num: held.num,
                 body: held.body,
             })
@@ -103,22 +122,24 @@ pub fn server_step<K: Keeper>(
             num,
             body,
         } => {
-            let held = keep(keeper, server, Record { key, num, body })?;
-            Ok(Packet::WriteRep {
-                caller,
-                op,
-                key,
-                num: held.num,
-                body: held.body,
-            })
+            let rec = Record {
+                key: *key,
+                num: *num,
+                body: *body,
+            };
+            keep(keeper, server, *caller, *op, &rec)
         }
         Packet::Store { job, item } => {
-            keeper.put(server, &item)?;
-            Ok(Packet::Stored { job })
+            keeper.put(server, item)?;
+            Ok(Packet::Stored { job: *job })
         }
         Packet::TopAsk { round } => {
             let top = keeper.top(server)?;
-            Ok(Packet::TopIs { round, server, top })
+            Ok(Packet::TopIs {
+                round: *round,
+                server,
+                top,
+            })
         }
         _ => unreachable!(),
     }
