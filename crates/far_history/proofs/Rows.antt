@@ -38,12 +38,14 @@ noted_at bytes moment body (Sent op line) ls table h rows =
       sent = rw (same_if op (Some (op_line (body_in bytes body) line)) None) refl;
       numbered = (rows op).numbered;
       emitted = (rows op).emitted;
+      emitted_at = (rows op).emitted_at;
       answered = (rows op).answered;
     })
     (λ o ne. record {
       sent = rw (other_if op o (Some (op_line (body_in bytes body) line)) None (λ e. ne (sym e))) ((rows o).sent);
       numbered = (rows o).numbered;
       emitted = (rows o).emitted;
+      emitted_at = (rows o).emitted_at;
       answered = (rows o).answered;
     })
 noted_at bytes moment body (Numbered op num) ls table h rows =
@@ -52,12 +54,14 @@ noted_at bytes moment body (Numbered op num) ls table h rows =
       sent = (rows op).sent;
       numbered = rw (same_if op (Some num) None) refl;
       emitted = (rows op).emitted;
+      emitted_at = (rows op).emitted_at;
       answered = (rows op).answered;
     })
     (λ o ne. record {
       sent = (rows o).sent;
       numbered = rw (other_if op o (Some num) None (λ e. ne (sym e))) ((rows o).numbered);
       emitted = (rows o).emitted;
+      emitted_at = (rows o).emitted_at;
       answered = (rows o).answered;
     })
 noted_at bytes moment body (Emitted op num near) ls table h rows =
@@ -67,12 +71,14 @@ noted_at bytes moment body (Emitted op num near) ls table h rows =
       sent = (rows op).sent;
       numbered = (rows op).numbered;
       emitted = rw (same_if op (Some reply) None) refl;
+      emitted_at = rw (same_if op (Some reply) None) refl;
       answered = (rows op).answered;
     })
     (λ o ne. record {
       sent = (rows o).sent;
       numbered = (rows o).numbered;
       emitted = rw (other_if op o (Some reply) None (λ e. ne (sym e))) ((rows o).emitted);
+      emitted_at = rw (other_if op o (Some reply) None (λ e. ne (sym e))) ((rows o).emitted_at);
       answered = (rows o).answered;
     })
 noted_at bytes moment body (Answered op) ls table h rows =
@@ -81,29 +87,31 @@ noted_at bytes moment body (Answered op) ls table h rows =
       sent = (rows op).sent;
       numbered = (rows op).numbered;
       emitted = (rows op).emitted;
+      emitted_at = (rows op).emitted_at;
       answered = rw (same_if op (Some op) None) refl;
     })
     (λ o ne. record {
       sent = (rows o).sent;
       numbered = (rows o).numbered;
       emitted = (rows o).emitted;
+      emitted_at = (rows o).emitted_at;
       answered = rw (other_if op o (Some op) None (λ e. ne (sym e))) ((rows o).answered);
     })
-noted_at bytes moment body (Admitted slot key tag) ls table h rows = λ o. record { sent = (rows o).sent; numbered = (rows o).numbered; emitted = (rows o).emitted; answered = (rows o).answered }
-noted_at bytes moment body (Evicted slot key tries) ls table h rows = λ o. record { sent = (rows o).sent; numbered = (rows o).numbered; emitted = (rows o).emitted; answered = (rows o).answered }
-noted_at bytes moment body (Kept slot key num) ls table h rows = λ o. record { sent = (rows o).sent; numbered = (rows o).numbered; emitted = (rows o).emitted; answered = (rows o).answered }
-noted_at bytes moment body (Snapped id point count same) ls table h rows = λ o. record { sent = (rows o).sent; numbered = (rows o).numbered; emitted = (rows o).emitted; answered = (rows o).answered }
-noted_at bytes moment body (SnapItem slot key num) ls table h rows = λ o. record { sent = (rows o).sent; numbered = (rows o).numbered; emitted = (rows o).emitted; answered = (rows o).answered }
-noted_at bytes moment body Stopped ls table h rows = λ o. record { sent = (rows o).sent; numbered = (rows o).numbered; emitted = (rows o).emitted; answered = (rows o).answered }
-noted_at bytes moment body (Recovered counter count) ls table h rows = λ o. record { sent = (rows o).sent; numbered = (rows o).numbered; emitted = (rows o).emitted; answered = (rows o).answered }
-noted_at bytes moment body (RecItem key num) ls table h rows = λ o. record { sent = (rows o).sent; numbered = (rows o).numbered; emitted = (rows o).emitted; answered = (rows o).answered }
+noted_at bytes moment body (Admitted slot key tag) ls table h rows = λ o. record { sent = (rows o).sent; numbered = (rows o).numbered; emitted = (rows o).emitted; emitted_at = (rows o).emitted_at; answered = (rows o).answered }
+noted_at bytes moment body (Evicted slot key tries) ls table h rows = λ o. record { sent = (rows o).sent; numbered = (rows o).numbered; emitted = (rows o).emitted; emitted_at = (rows o).emitted_at; answered = (rows o).answered }
+noted_at bytes moment body (Kept slot key num) ls table h rows = λ o. record { sent = (rows o).sent; numbered = (rows o).numbered; emitted = (rows o).emitted; emitted_at = (rows o).emitted_at; answered = (rows o).answered }
+noted_at bytes moment body (Snapped id point count same) ls table h rows = λ o. record { sent = (rows o).sent; numbered = (rows o).numbered; emitted = (rows o).emitted; emitted_at = (rows o).emitted_at; answered = (rows o).answered }
+noted_at bytes moment body (SnapItem slot key num) ls table h rows = λ o. record { sent = (rows o).sent; numbered = (rows o).numbered; emitted = (rows o).emitted; emitted_at = (rows o).emitted_at; answered = (rows o).answered }
+noted_at bytes moment body Stopped ls table h rows = λ o. record { sent = (rows o).sent; numbered = (rows o).numbered; emitted = (rows o).emitted; emitted_at = (rows o).emitted_at; answered = (rows o).answered }
+noted_at bytes moment body (Recovered counter count) ls table h rows = λ o. record { sent = (rows o).sent; numbered = (rows o).numbered; emitted = (rows o).emitted; emitted_at = (rows o).emitted_at; answered = (rows o).answered }
+noted_at bytes moment body (RecItem key num) ls table h rows = λ o. record { sent = (rows o).sent; numbered = (rows o).numbered; emitted = (rows o).emitted; emitted_at = (rows o).emitted_at; answered = (rows o).answered }
 
 pub noted_rows : (bytes : List ℕ) (l : Stored) (ls : List LogLine) (table : List Told) → op_bound_of l.bare ≤ length table
     → ((op : ℕ) → IsRow bytes ls op (get_or table op unheard)) → (op : ℕ) → IsRow bytes (line_in bytes l ∷ ls) op (get_or (noted l table) op unheard)
 noted_rows bytes l ls table h rows = noted_at bytes l.moment l.body l.bare ls table h rows
 
 pub no_rows : (bytes : List ℕ) (op : ℕ) → IsRow bytes [] op unheard
-no_rows bytes op = record { sent = refl; numbered = refl; emitted = refl; answered = refl }
+no_rows bytes op = record { sent = refl; numbered = refl; emitted = refl; emitted_at = refl; answered = refl }
 
 pub length_noted : (l : Stored) (table : List Told) → length (noted l table) ≡ length table
 length_noted l table = length_noted_at l.moment l.body l.bare table where

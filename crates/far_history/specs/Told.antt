@@ -31,7 +31,9 @@ noted_entry moment body (Sent op line) table = slice_set table op
 noted_entry moment body (Numbered op num) table = slice_set table op
     (record (slice_index_or table op unheard) { numbered = Some num })
 noted_entry moment body (Emitted op num near) table = slice_set table op
-    (record (slice_index_or table op unheard) { emitted = Some (record { num = num; near = near; body = body }) })
+    (record (slice_index_or table op unheard) {
+      emitted = Some (record { moment = moment; num = num; near = near; body = body });
+    })
 noted_entry moment body (Answered op) table = slice_set table op
     (record (slice_index_or table op unheard) { answered = Some moment })
 noted_entry moment body _ table = table
@@ -54,6 +56,10 @@ abbrev pub reply_told : List ℕ → Option Reply → Option Answer
 reply_told bytes None = None
 reply_told bytes (Some r) = Some (answer_told bytes r)
 
+abbrev pub reply_moment : Option Reply → Option ℕ
+reply_moment None = None
+reply_moment (Some r) = Some r.moment
+
 abbrev pub what_of : {X : Type 0} → Option (At X) → Option X
 what_of None = None
 what_of (Some a) = Some a.what
@@ -67,6 +73,7 @@ pub record IsRow (bytes : List ℕ) (lines : List LogLine) (op : ℕ) (row : Tol
   pub sent : sending_told bytes row.sent ≡ sending lines op
   pub numbered : row.numbered ≡ what_of (numbering lines op)
   pub emitted : reply_told bytes row.emitted ≡ what_of (emission lines op)
+  pub emitted_at : reply_moment row.emitted ≡ moment_of (emission lines op)
   pub answered : row.answered ≡ moment_of (answering lines op)
 
 -- each row has what the lines tell of its operation, wherever the bodies stand

@@ -10,9 +10,10 @@ pub(crate) struct Sending {
     pub body: Stretch,
 }
 
-/// What an operation was answered with.
+/// When the answer to an operation left the switch, and what it says.
 #[derive(Clone, Copy)]
 pub(crate) struct Reply {
+    pub moment: u64,
     pub num: u64,
     pub near: bool,
     pub body: Stretch,
@@ -69,7 +70,12 @@ fn note(table: &mut [Told], line: &Stored)
         Bare::Sent { op, line } => table[op as usize].sent = Some(Sending { moment, line, body }),
         Bare::Numbered { op, num } => table[op as usize].numbered = Some(num),
         Bare::Emitted { op, num, near } => {
-            table[op as usize].emitted = Some(Reply { num, near, body })
+            table[op as usize].emitted = Some(Reply {
+                moment,
+                num,
+                near,
+                body,
+            })
         }
         Bare::Answered { op } => table[op as usize].answered = Some(moment),
         _ => {}

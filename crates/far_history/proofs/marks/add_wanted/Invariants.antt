@@ -1,6 +1,0 @@
-use Rattle.std.proofs.Common.{◌≡◌, ◌++◌, drop}
-use Rattle.far_history.specs.Marks.{wanted_marks}
-use Rattle.far_history.proofs.marks.add_wanted.Given as goal
-
-abbrev pub invariant-loop-op : goal.invariant-loop-op
-invariant-loop-op l = l.marks.items ++ wanted_marks l.op (drop l.op l.table) ≡ l.initial.marks.items ++ wanted_marks 0 l.table
