@@ -1,7 +1,6 @@
 //! The log of a run, its history, the map that its writes leave, the report and the summary.
 #![tactic(auto)]
 
-mod arrange;
 mod last_writes;
 mod log;
 mod marks;
