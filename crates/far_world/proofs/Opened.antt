@@ -27,6 +27,10 @@ seated_from ops n zero c seat h = absurd cc
 seated_from ops n (suc k) zero seat h = let e : n + 0 ≡ n = omega arith in sym (same_Some _ _ h) ∙ ap (opening_seat ops) (sym e)
 seated_from ops n (suc k) (suc c) seat h = let e : suc n + c ≡ n + suc c = omega arith in seated_from ops (suc n) k c seat h ∙ ap (opening_seat ops) e
 
+pub opening_count : (ops : List OpLine) (n k : ℕ) → length (opening_seats ops n k) ≡ k
+opening_count ops n zero = refl
+opening_count ops n (suc k) = ap suc (opening_count ops (suc n) k)
+
 opening_seated : (ops : List OpLine) (c : ℕ) → IsSeated ops c (opening_seat ops c)
 opening_seated ops c = record { number = refl; line = tt; sent = 0; left = refl }
 

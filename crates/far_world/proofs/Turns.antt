@@ -1,9 +1,11 @@
 -- What a party's turn makes of all parties.
-use Rattle.std.proofs.Common.{◌≡◌, ◌≢◌, ℕ, zero, suc, ◌+◌, ◌<◌, ◌≤◌, max, ◌⊎◌, inl, inr, Bool, true, List, [], ◌∷◌, ◌++◌, length, map, get_or, set, refl, sym, ap, ◌∙◌, subst, Some, arith}
+use Rattle.std.proofs.Common.{◌≡◌, ◌≢◌, ℕ, zero, suc, ◌+◌, ◌-◌, ◌<◌, ◌≤◌, max, ◌⊎◌, inl, inr, Bool, true, false, not, ◌&&◌, cond, List, [], ◌∷◌, ◌++◌, length, map, get_or, set, refl, sym, ap, ◌∙◌, subst, Some, arith}
 use Rattle.std.proofs.lemmas.List.{get_or-set_same, get_or-set_other, length-set}
+use Rattle.std.proofs.lemmas.List.Sums.{count_by-le-length, get_or-le-sum_by, sum_by-set}
 use Rattle.std.proofs.lemmas.Bool.{cases_eq}
 use Rattle.std.proofs.lemmas.Option.{same_Some}
-use Rattle.std.specs.Prelude.{slice_get}
+use Rattle.std.specs.List.{count_by}
+use Rattle.std.specs.Prelude.{is_some, slice_get}
 use Rattle.far_base.specs.PlanView.{PlanView}
 use Rattle.far_base.specs.declared.log.LogEntry.{LogEntry}
 use Rattle.far_base.specs.declared.packet.Message.{Message}
@@ -14,11 +16,12 @@ use Rattle.far_history.specs.RoomyLog.{RoomyLog}
 use Rattle.far_base.specs.declared.packet.Packet.{Packet}
 use Rattle.far_base.specs.declared.packet.Packet.TheVariants.{GetAns, WriteAns, Release, Ask}
 use Rattle.far_model.specs.Clients.{ClientState, client_takes}
-use Rattle.far_model.specs.Events.{can_send, client_turn}
+use Rattle.far_model.specs.Events.{can_send, client_turn, has_next, next_sent}
 use Rattle.far_model.specs.Parties.{Turn, messages_from}
 use Rattle.far_model.specs.State.{line_at, nobody}
 use Rattle.far_model.specs.View.{SwitchView}
 use Rattle.far_world.proofs.Scripts.{length_tells}
+use Rattle.far_world.specs.Choices.{seat_can_send}
 use Rattle.far_world.specs.Scene.{IsFit, KeeperView, scene_of}
 use Rattle.far_world.specs.Seats.{AreSeated, IsSeated, SeatView, TakesTurn, client_of, clients_of}
 use Rattle.far_world.specs.Steps.{Logs}
@@ -92,9 +95,59 @@ seat_is ops seats c seat e less seated = rw e (seated_at ops seats c seat less s
 pub own_seat : (ops : List OpLine) (seats : List SeatView) (c : ℕ) (seat : SeatView) → seat ≡ get_or seats c seat → c < length seats → AreSeated ops seats → IsSeated ops seat.number seat
 own_seat ops seats c seat e less seated = let h = seat_is ops seats c seat e less seated in subst (λ (n : ℕ). IsSeated ops n seat) (sym h.number) h
 
-pub fit_set : (plan : PlanView) (seats : List SeatView) (controller : ControllerView) (can_tick : Bool) (passes : List ℕ) (c : ℕ) (seat new : SeatView) → seat ≡ get_or seats c seat → c < length seats
-    → IsFit plan seats controller can_tick passes → IsSeated plan.ops seat.number new → IsFit plan (set seats c new) controller can_tick passes
-fit_set plan seats controller can_tick passes c seat new e less fit own = record {
+-- ---- how many clients can send
+
+-- 1 where the client can send, and else 0
+abbrev pub sends_one : SeatView → ℕ
+sends_one seat = cond {A = ℕ} (seat_can_send seat) 1 0
+
+-- a client of the seats is among those counted
+pub counts_one : (seats : List SeatView) (c : ℕ) (seat : SeatView) → seat ≡ get_or seats c seat → c < length seats → sends_one seat ≤ count_by seat_can_send seats
+counts_one seats c seat e less = subst (λ (s : SeatView). sends_one s ≤ count_by seat_can_send seats) (sym e) (get_or-le-sum_by sends_one seats c seat less)
+
+-- another seat in the place of one
+pub count_set : (seats : List SeatView) (c : ℕ) (seat new : SeatView) → seat ≡ get_or seats c seat → c < length seats → count_by seat_can_send (set seats c new) + sends_one seat ≡ count_by seat_can_send seats + sends_one new
+count_set seats c seat new e less = ap (λ (s : SeatView). count_by seat_can_send (set seats c new) + sends_one s) e ∙ sum_by-set sends_one seats c new seat less
+
+-- a number of clients that can send, with one taken out and one put in, is that after another seat is in the place of one
+pub count_stays : (seats : List SeatView) (c : ℕ) (seat new : SeatView) → seat ≡ get_or seats c seat → c < length seats → count_by seat_can_send seats - sends_one seat + sends_one new ≤ length seats
+count_stays seats c seat new e less = omega (arith, counts_one seats c seat e less, count_set seats c seat new e less, count_by-le-length seat_can_send (set seats c new), length-set seats c new)
+
+-- a client that has sent waits
+pub sent_waits : (ops : List OpLine) (c : ℕ) (client : ClientState) → can_send client ≡ true → can_send (next_sent ops c client client.left).state ≡ false
+sent_waits ops c client h = go client.left (second (not (is_some client.waits)) (has_next client.left) h)
+  where
+    go : (left : List ℕ) → has_next left ≡ true → can_send (next_sent ops c client left).state ≡ false
+    go [] k = absurd cc
+    go (op ∷ left) k = refl
+
+    second : (a b : Bool) → (a && b) ≡ true → b ≡ true
+    second true b k = k
+    second false b k = absurd cc
+
+-- a client that can send is counted
+pub sends_itself : (seats : List SeatView) (c : ℕ) (seat : SeatView) → seat ≡ get_or seats c seat → c < length seats → can_send (get_or (clients_of seats) c nobody) ≡ true → seat_can_send seat ≡ true
+sends_itself seats c seat e less can = ap seat_can_send e ∙ (ap can_send (sym (client_there seats c seat less)) ∙ can)
+
+pub some_sends : (seats : List SeatView) (able c : ℕ) (seat : SeatView) → seat ≡ get_or seats c seat → c < length seats → can_send (get_or (clients_of seats) c nobody) ≡ true → able ≡ count_by seat_can_send seats → 1 ≤ able
+some_sends seats able c seat e less can count =
+    let one : sends_one seat ≡ 1 = ap (λ (b : Bool). cond {A = ℕ} b 1 0) (sends_itself seats c seat e less can) in
+    omega (arith, one, count, counts_one seats c seat e less)
+
+-- one client fewer can send after it has sent
+pub sent_count : (ops : List OpLine) (seats : List SeatView) (able c : ℕ) (seat new : SeatView) → seat ≡ get_or seats c seat → c < length seats → can_send (get_or (clients_of seats) c nobody) ≡ true → able ≡ count_by seat_can_send seats
+    → new.state ≡ (next_sent ops seat.number seat.state seat.state.left).state → able - 1 + sends_one seat ≡ able + sends_one new
+sent_count ops seats able c seat new e less can count sent =
+    let own = sends_itself seats c seat e less can in
+    let one : sends_one seat ≡ 1 = ap (λ (b : Bool). cond {A = ℕ} b 1 0) own in
+    let none : sends_one new ≡ 0 = ap (λ (b : Bool). cond {A = ℕ} b 1 0) (ap can_send sent ∙ sent_waits ops seat.number seat.state own) in
+    omega (arith, one, none, some_sends seats able c seat e less can count)
+
+pub fit_set : (plan : PlanView) (seats : List SeatView) (able after : ℕ) (controller : ControllerView) (can_tick : Bool) (passes : List ℕ) (c : ℕ) (seat new : SeatView) → seat ≡ get_or seats c seat → c < length seats
+    → IsFit plan seats able controller can_tick passes → IsSeated plan.ops seat.number new → after + sends_one seat ≡ able + sends_one new → IsFit plan (set seats c new) after controller can_tick passes
+fit_set plan seats able after controller can_tick passes c seat new e less fit own count = record {
+  few = let more = fit.few in omega (arith, more, length-set seats c new);
+  sends = let sends = fit.sends in omega (arith, sends, count, count_set seats c seat new e less);
   seated = seated_set plan.ops seats c new less fit.seated (let h = seat_is plan.ops seats c seat e less fit.seated in subst (λ (n : ℕ). IsSeated plan.ops n new) h.number own);
   config = fit.config;
   ticks = fit.ticks;

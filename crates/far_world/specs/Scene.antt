@@ -1,5 +1,6 @@
 -- All parties of a world as contracts see them.
-use Rattle.std.specs.Prelude.{◌≡◌, ℕ, Bool, true, List, [], replicate, is_some, length, Option, None, Some}
+use Rattle.std.specs.Prelude.{◌≡◌, ℕ, ◌^◌, ◌<◌, Bool, true, List, [], replicate, is_some, length, Option, None, Some}
+use Rattle.std.specs.List.{count_by}
 use Rattle.far_base.specs.PlanView.{PlanView}
 use Rattle.far_base.specs.declared.packet.Message.{Message}
 use Rattle.far_base.specs.declared.record.Record.{Record}
@@ -8,6 +9,7 @@ use Rattle.far_model.specs.Controller.{tick}
 use Rattle.far_model.specs.Passes.{PASS_KINDS}
 use Rattle.far_model.specs.State.{State}
 use Rattle.far_model.specs.View.{SwitchView}
+use Rattle.far_world.specs.Choices.{seat_can_send}
 use Rattle.far_world.specs.Seats.{AreSeated, SeatView, clients_of}
 use Rattle.controller_core.specs.ControllerView.{ControllerView}
 
@@ -69,11 +71,13 @@ scene_of plan switch running seats controller bag passes done log keeper = recor
   keeper = keeper;
 }
 
--- the clients and the controller are those of the plan, and it is known whether the controller has something to do for
--- its first want
-pub record IsFit (plan : PlanView) (seats : List SeatView) (controller : ControllerView) (can_tick : Bool)
+-- the clients and the controller are those of the plan, and it is known how many clients can send, and whether the
+-- controller has something to do for its first want
+pub record IsFit (plan : PlanView) (seats : List SeatView) (able : ℕ) (controller : ControllerView) (can_tick : Bool)
     (passes : List ℕ) : Type 0 where
   pub seated : AreSeated plan.ops seats
+  pub few : length seats < 2 ^ 16
+  pub sends : able ≡ count_by seat_can_send seats
   pub config : controller.config ≡ plan.config
   pub ticks : can_tick ≡ is_some (tick controller.state)
   pub counts : length passes ≡ PASS_KINDS

@@ -22,7 +22,7 @@ use switch_core::Switch;
 /// What can happen but orders: how many clients can send, how many messages can be delivered, and which events of the
 /// controller.
 #[derive(Clone, Copy)]
-struct Choices {
+pub(crate) struct Choices {
     senders: u32,
     deliverable: u32,
     tick: bool,
@@ -31,7 +31,7 @@ struct Choices {
 }
 
 /// 1 where the test holds, and else 0.
-fn one_if(test: bool) -> u32
+pub(crate) fn one_if(test: bool) -> u32
     ensures value { result ≡ if test then 1 else 0 }
     ensures bound { result ≤ 1 }
 {
@@ -39,7 +39,7 @@ fn one_if(test: bool) -> u32
 }
 
 /// How many clients can send.
-fn count_senders(seats: &[Seat]) -> u32
+pub(crate) fn count_senders(seats: &[Seat]) -> u32
     requires { length seats.now < 2 ^ 16 }
     ensures count { result ≡ count_by seat_can_send seats.now }
     ensures bound { result ≤ length seats.now }
@@ -166,7 +166,7 @@ fn controller_event(tick: bool, recover: bool, restart: bool, place: u32) -> Eve
 }
 
 /// How many they are.
-fn count_of(choices: &Choices) -> u32
+pub(crate) fn count_of(choices: &Choices) -> u32
     requires senders { choices.now.senders < 2 ^ 16 }
     requires deliverable { choices.now.deliverable < 2 ^ 28 }
     ensures count { result ≡ choices.now.senders + choices.now.deliverable + (if choices.now.tick then 1 else 0)
@@ -233,7 +233,7 @@ impl<S: Switch + Drop, K: Keeper + Drop> Parties<S, K> {
     }
 
     /// What can happen but orders.
-    fn choices(&self) -> Choices
+    pub(crate) fn choices(&self) -> Choices
         requires clients { length self.now.state.clients < 2 ^ 16 }
         requires few { length self.now.state.bag < 2 ^ 28 }
         ensures senders { result.senders ≡ count_by events.can_send self.now.state.clients }
@@ -248,7 +248,7 @@ impl<S: Switch + Drop, K: Keeper + Drop> Parties<S, K> {
             + (if result.tick then 1 else 0) + (if result.recover then 1 else 0) + (if result.restart then 1 else 0) }
     {
         Choices {
-            senders: count_senders(&self.clients),
+            senders: self.senders,
             deliverable: count_deliverable(&self.bag, self.running),
             tick: self.can_tick,
             recover: self.can_recover(),
@@ -257,7 +257,7 @@ impl<S: Switch + Drop, K: Keeper + Drop> Parties<S, K> {
     }
 
     /// How many events other than orders can happen.
-    pub(crate) fn count_choices(&self) -> u32
+    fn count_choices(&self) -> u32
         requires clients { length self.now.state.clients < 2 ^ 16 }
         requires few { length self.now.state.bag < 2 ^ 28 }
         ensures count { result ≡ length (events.choices self.now.state) }
@@ -291,7 +291,7 @@ impl<S: Switch + Drop, K: Keeper + Drop> Parties<S, K> {
     }
 
     /// The event at this place among these, which can happen, counted from 0.
-    fn event_among(&self, choices: &Choices, place: u32) -> Event
+    pub(crate) fn event_among(&self, choices: &Choices, place: u32) -> Event
         requires senders { choices.now.senders ≡ count_by events.can_send self.now.state.clients }
         requires most { choices.now.senders < 2 ^ 16 }
         requires deliverable { choices.now.deliverable ≡ count_by (events.can_deliver self.now.state.running)
@@ -311,15 +311,6 @@ impl<S: Switch + Drop, K: Keeper + Drop> Parties<S, K> {
         }
         let place = place - choices.deliverable;
         controller_event(choices.tick, choices.recover, choices.restart, place)
-    }
-
-    /// The event other than an order at this place among those that can happen, counted from 0.
-    pub(crate) fn choice_at(&self, place: u32) -> Event
-        requires clients { length self.now.state.clients < 2 ^ 16 }
-        requires few { length self.now.state.bag < 2 ^ 28 }
-        ensures { result ≡ slice_index_or (events.choices self.now.state) place Event.Tick }
-    {
-        self.event_among(&self.choices(), place)
     }
 
     /// Whether an order can happen, apart from its number.

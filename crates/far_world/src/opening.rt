@@ -9,6 +9,7 @@ ghost use Rattle.far_world.specs.Scene.{keeper_of};
 ghost use Rattle.far_world.specs.Seats.{opening_seats};
 
 use crate::bag::Bag;
+use crate::choice::count_senders;
 use crate::parties::Parties;
 use crate::seat::{Seat, config_of, ops_of, senders_of};
 use crate::turn::Turn;
@@ -103,11 +104,13 @@ impl<S: Switch + Drop, K: Keeper + Drop> Parties<S, K> {
                 keeper,
             });
         }
+        let senders = count_senders(&clients);
         Ok(Parties {
             plan,
             switch,
             running: true,
             clients,
+            senders,
             controller,
             can_tick: false,
             keeper,

@@ -1,4 +1,5 @@
 use crate::bag::Bag;
+use crate::choice::one_if;
 use crate::listing::{list_all, note_recovered};
 use crate::passing::{count_pass, pass_through};
 use crate::seat::{Seat, config_of, ops_of};
@@ -22,6 +23,8 @@ pub(crate) struct Parties<S: Switch + Drop, K: Keeper + Drop> {
     pub switch: S,
     pub running: bool,
     pub clients: Vec<Seat>,
+    /// How many clients can send.
+    pub senders: u32,
     pub controller: Controller,
     /// Whether the controller has something to do for its first want.
     pub can_tick: bool,
@@ -44,7 +47,7 @@ impl<S: Switch + Drop, K: Keeper + Drop> Model for Parties<S, K> {
         p.passes p.done p.log
         (keeper_of (K.records p.keeper) (K.server_count p.keeper) (K.ceiling p.keeper) (K.fault_count p.keeper)) };
 
-    ghost invariant = { λ p. IsFit p.plan p.clients.items p.controller p.can_tick p.passes };
+    ghost invariant = { λ p. IsFit p.plan p.clients.items p.senders p.controller p.can_tick p.passes };
 }
 
 ghost use Rattle.std.specs.Prelude.{◌≡◌, ◌+◌, ◌^◌, ◌<◌, ◌≤◌, OnOk, OnErr, IsErrOf, length, slice_index, is_some};
@@ -79,6 +82,7 @@ impl<S: Switch + Drop, K: Keeper + Drop> Parties<S, K> {
         let ops = ops_of(&self.plan);
         let seat = &mut self.clients[number as usize];
         seat.send_next(ops, &mut self.turn)?;
+        self.senders -= 1;
         post(
             &mut self.bag,
             &mut self.log,
@@ -103,7 +107,9 @@ impl<S: Switch + Drop, K: Keeper + Drop> Parties<S, K> {
         let most = self.clients[number as usize].most_sent();
         make_room(&mut self.bag, &mut self.log, &mut self.turn, most as u32, 1)?;
         let seat = &mut self.clients[number as usize];
+        let before = one_if(seat.can_send());
         seat.take(packet, &mut self.turn);
+        self.senders = self.senders - before + one_if(seat.can_send());
         post(
             &mut self.bag,
             &mut self.log,

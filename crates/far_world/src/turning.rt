@@ -2,6 +2,7 @@ ghost use Rattle.std.specs.Prelude.{◌≡◌, ◌^◌, ◌<◌, length};
 ghost use Rattle.far_base.specs.declared.event.Event.{Event};
 ghost use Rattle.far_model.specs.Choosing as choosing;
 
+use crate::choice::count_of;
 use crate::parties::Parties;
 use far_base::{Event, Party};
 use far_outside::Keeper;
@@ -52,8 +53,9 @@ impl<S: Switch + Drop, K: Keeper + Drop> Parties<S, K> {
         requires few { length self.now.state.bag < 2 ^ 28 }
         ensures { result ≡ choosing.first_of (choosing.choices_of self.now.state who) }
     {
-        for place in 0..self.count_choices() {
-            let event = self.choice_at(place);
+        let choices = self.choices();
+        for place in 0..count_of(&choices) {
+            let event = self.event_among(&choices, place);
             if same_party(self.party_of(event), who) {
                 return Some(event);
             }

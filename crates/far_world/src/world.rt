@@ -259,6 +259,7 @@ impl<S: Switch + Drop, K: Keeper + Drop> World<S, K> {
             switch,
             running: _,
             clients: _clients,
+            senders: _,
             controller: _controller,
             can_tick: _,
             keeper,

@@ -1,8 +1,8 @@
-use Rattle.std.proofs.Common.{◌≡◌, ℕ, ◌<◌, ◌≤◌, ◌^◌, max, length, sym, ap, ◌∙◌, subst, arith}
+use Rattle.std.proofs.Common.{◌≡◌, ℕ, Bool, ◌+◌, ◌-◌, ◌<◌, ◌≤◌, ◌^◌, max, cond, length, sym, ap, ◌∙◌, subst, arith}
 use Rattle.far_model.specs.Clients.{ClientState, client_takes}
 use Rattle.far_world.proofs.Lists.{get_or_any}
 use Rattle.far_world.specs.Seats.{SeatView, client_of}
-use Rattle.far_world.proofs.Turns.{client_there, counted, few_noted, few_told, fit_set, length_clients, own_seat, seat_goes}
+use Rattle.far_world.proofs.Turns.{client_there, count_stays, counted, counts_one, few_noted, few_told, fit_set, length_clients, own_seat, seat_goes, sends_one}
 use Rattle.far_world.proofs.parties.Parties.client_handles.Goals as goal
 
 pub post-requires-clause-bag_room : goal.post-requires-clause-bag_room
@@ -33,11 +33,30 @@ post-requires-clause-log_room g c =
     let noted = counted c.make_room.new.turn.notes.items c.take.new.turn.notes.items (client_takes c.self.inside.plan.ops c.index_mut-seat.result.now.number c.index_mut-seat.result.now.state c.args.packet.now).notes 1 c.in_ok-make_room.ensures.turn_notes took.notes (few_noted c.self.inside.plan.ops c.index_mut-seat.result.now.number c.index_mut-seat.result.now.state c.args.packet.now) in
     omega (arith, noted, c.take.new.turn.notes.ok.0, c.in_ok-make_room.ensures.log_room)
 
+pub overflow_sub-self : goal.overflow_sub-self
+overflow_sub-self g c =
+    let there : c.args.number < length c.self.inside.clients.items = let h = rw (← c.self.view_is) at c.requires.there in rw length_clients at h in
+    let before : c.one_if-before.result ≡ sends_one c.index_mut-seat.result.now = c.one_if-before.ensures.value ∙ ap (λ (b : Bool). cond {A = ℕ} b 1 0) c.can_send.ensures in
+    let least = counts_one c.self.inside.clients.items c.args.number c.index_mut-seat.result.now c.index_mut-seat.ensures.value there in
+    omega (arith, before, least, c.self.invariant.sends)
+
+pub overflow_add-self : goal.overflow_add-self
+overflow_add-self g c =
+    let there : c.args.number < length c.self.inside.clients.items = let h = rw (← c.self.view_is) at c.requires.there in rw length_clients at h in
+    let before : c.one_if-before.result ≡ sends_one c.index_mut-seat.result.now = c.one_if-before.ensures.value ∙ ap (λ (b : Bool). cond {A = ℕ} b 1 0) c.can_send.ensures in
+    let after : c.one_if.result ≡ sends_one c.take.new.self = c.one_if.ensures.value ∙ ap (λ (b : Bool). cond {A = ℕ} b 1 0) c.can_send-2.ensures in
+    let stays = count_stays c.self.inside.clients.items c.args.number c.index_mut-seat.result.now c.take.new.self c.index_mut-seat.ensures.value there in
+    omega (arith, before, after, stays, c.self.invariant.sends, c.self.invariant.few)
+
 pub invariant_of-self-2 : goal.invariant_of-self-2
 invariant_of-self-2 g c =
     let there : c.args.number < length c.self.inside.clients.items = let h = rw (← c.self.view_is) at c.requires.there in rw length_clients at h in
     let took = c.take.ensures c.self.inside.plan.ops (own_seat c.self.inside.plan.ops c.self.inside.clients.items c.args.number c.index_mut-seat.result.now c.index_mut-seat.ensures.value there c.self.invariant.seated) in
-    fit_set c.self.inside.plan c.self.inside.clients.items c.self.inside.controller c.self.inside.can_tick c.self.inside.passes c.args.number c.index_mut-seat.result.now c.take.new.self c.index_mut-seat.ensures.value there c.self.invariant took.seated
+    let before : c.one_if-before.result ≡ sends_one c.index_mut-seat.result.now = c.one_if-before.ensures.value ∙ ap (λ (b : Bool). cond {A = ℕ} b 1 0) c.can_send.ensures in
+    let after : c.one_if.result ≡ sends_one c.take.new.self = c.one_if.ensures.value ∙ ap (λ (b : Bool). cond {A = ℕ} b 1 0) c.can_send-2.ensures in
+    let least = counts_one c.self.inside.clients.items c.args.number c.index_mut-seat.result.now c.index_mut-seat.ensures.value there in
+    fit_set c.self.inside.plan c.self.inside.clients.items c.self.inside.senders (c.self.inside.senders - c.one_if-before.result + c.one_if.result) c.self.inside.controller c.self.inside.can_tick c.self.inside.passes c.args.number c.index_mut-seat.result.now c.take.new.self c.index_mut-seat.ensures.value there c.self.invariant took.seated
+    (omega (arith, before, after, least, c.self.invariant.sends))
 
 pub returns-clause-ok : goal.returns-clause-ok
 returns-clause-ok g c =

@@ -1,10 +1,19 @@
-use Rattle.std.proofs.Common.{refl}
-use Rattle.far_world.proofs.Opened.{opening_seats_are, opens}
+use Rattle.std.proofs.Common.{◌≡◌, length, refl, ap, ◌∙◌, arith}
+use Rattle.std.specs.List.{count_by}
+use Rattle.far_world.proofs.Opened.{opening_count, opening_seats_are, opens}
+use Rattle.far_world.specs.Choices.{seat_can_send}
 use Rattle.far_world.specs.Scene.{keeper_of}
 use Rattle.far_world.proofs.parties.Parties.opened.Goals as goal
 
+pub count_senders-senders-requires : goal.count_senders-senders-requires
+count_senders-senders-requires g c =
+    let seats : length c.deref.result.now ≡ c.args.plan.config.clients = ap length c.deref.ensures.value ∙ (ap length c.in-Ok.ensures ∙ opening_count c.args.plan.ops 0 c.args.plan.config.clients) in
+    omega (arith, seats, c.requires.valid.config.clients.1)
+
 pub invariant_of-result : goal.invariant_of-result
 invariant_of-result g c = record {
+  few = let clients : length c.in-Ok.clients.items ≡ c.args.plan.config.clients = ap length c.in-Ok.ensures ∙ opening_count c.args.plan.ops 0 c.args.plan.config.clients in omega (arith, clients, c.requires.valid.config.clients.1);
+  sends = c.count_senders-senders.ensures.count ∙ ap (count_by seat_can_send) c.deref.ensures.value;
   seated = rw c.in-Ok.ensures (opening_seats_are c.args.plan.ops c.args.plan.config.clients);
   config = rw (c.in-Ok-new.ensures, c.config_of-config.ensures) refl;
   ticks = rw c.in-Ok-new.ensures refl;
