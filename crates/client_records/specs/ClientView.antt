@@ -14,6 +14,11 @@ pub record ClientView : Type 0 where
   pub released : ℕ
   pub preserved : List Record
 
+-- the last operation, where it is open
+abbrev pub open_if : Bool → Option (ℕ × OpLine) → Option (ℕ × OpLine)
+open_if true last = last
+open_if false last = None
+
 -- while an operation is open there is room for one record
 abbrev pub HasRoom : Option (ℕ × OpLine) → ℕ → ℕ → Type 0
 HasRoom None len capacity = Unit {0}

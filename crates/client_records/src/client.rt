@@ -3,30 +3,32 @@ use far_base::{Memory, Op, OpLine, Out, Packet, Party, Record};
 use std::alloc::Global;
 use std::marker::Model;
 
-/// A client: its number, the operation that it waits for, the version number up to which writes are safe, and the
-/// records above it that only the switch has, one of each key, in the order in which the keys were first preserved.
+/// A client: its number, the operation that it sent last and whether it waits for it, the version number up to which
+/// writes are safe, and the records above it that only the switch has, one of each key, in the order in which the keys
+/// were first preserved.
 #[derive(Drop)]
 pub struct Client {
     number: u32,
-    open: Option<(u32, OpLine)>,
+    is_open: bool,
+    last: Option<(u32, OpLine)>,
     released: u64,
     preserved: Vec<Record>,
 }
 
 impl Model for Client {
     ghost use Rattle.std.specs.Prelude.{vec_len, vec_capacity};
-    ghost use Rattle.client_records.specs.ClientView.{ClientView, HasRoom};
+    ghost use Rattle.client_records.specs.ClientView.{ClientView, HasRoom, open_if};
 
     ghost Value = { ClientView };
 
     ghost view = { λ c. record {
       number = c.number;
-      waits = c.open;
+      waits = open_if c.is_open c.last;
       released = c.released;
       preserved = c.preserved.items;
     } };
 
-    ghost invariant = { λ c. HasRoom c.open (vec_len c.preserved) (vec_capacity c.preserved) };
+    ghost invariant = { λ c. HasRoom (open_if c.is_open c.last) (vec_len c.preserved) (vec_capacity c.preserved) };
 }
 
 ghost use Rattle.std.specs.Prelude.{◌≡◌, ◌^◌, ◌<◌, ◌++◌, ◌∷◌, max, length, [], None, Some, slice_get, is_none};
@@ -42,6 +44,19 @@ fn put_last<T: Copy>(items: &mut Vec<T>, item: &T)
     ensures { items.new.items ≡ items.old.items ++ item.now ∷ [] }
 {
     items.push_reserved(*item);
+}
+
+/// Puts the operation in the place of the one that was there.
+fn put_over(last: &mut Option<(u32, OpLine)>, op: u32, line: &OpLine)
+    ensures { last.new ≡ Some (op, line.now) }
+{
+    match last {
+        Some((number, kept)) => {
+            *number = op;
+            *kept = *line;
+        }
+        None => *last = Some((op, *line)),
+    }
 }
 
 /// Puts what the operation asks the switch behind what is sent, for which there is room.
@@ -76,7 +91,8 @@ impl Client {
     {
         Client {
             number,
-            open: None,
+            is_open: false,
+            last: None,
             released: 0,
             preserved: Vec::new(alloc),
         }
@@ -86,7 +102,7 @@ impl Client {
     pub fn is_idle(&self) -> bool
         ensures { result ≡ is_none self.now.waits }
     {
-        self.open.is_none()
+        !self.is_open || self.last.is_none()
     }
 
     /// The preserved records, in the order in which their keys were first preserved.
@@ -108,7 +124,8 @@ impl Client {
         ensures unsent { OnErr result (out.new ≡ out.old) }
     {
         self.preserved.reserve(1)?;
-        self.open = Some((op, *line));
+        put_over(&mut self.last, op, line);
+        self.is_open = true;
         ask(self.number, op, line, out);
         Ok(())
     }
@@ -120,7 +137,7 @@ impl Client {
         ensures op { Some result ≡ open_op self.old.waits }
         ensures client { self.new ≡ after_answer self.old packet.now }
     {
-        let Some((op, line)) = &self.open else {
+        let Some((op, line)) = &self.last else {
             unreachable!()
         };
         let op = *op;
@@ -129,7 +146,7 @@ impl Client {
                 put(&mut self.preserved, line, *num);
             }
         }
-        self.open = None;
+        self.is_open = false;
         op
     }
 

@@ -23,16 +23,18 @@ pub(crate) fn put(records: &mut Vec<Record>, line: &OpLine, num: u64)
     ensures { records.new.items ≡ put_record (record { key = line.now.key; num = num; body = line.now.body })
         records.old.items }
 {
-    let rec = Record {
-        key: line.key,
-        num,
-        body: line.body,
-    };
     let place = place_of(records, &line.key);
     if place < records.len() {
-        records[place] = rec;
+        let kept = &mut records[place];
+        kept.key = line.key;
+        kept.num = num;
+        kept.body = line.body;
     } else {
-        records.push_reserved(rec);
+        records.push_reserved(Record {
+            key: line.key,
+            num,
+            body: line.body,
+        });
     }
 }
 
