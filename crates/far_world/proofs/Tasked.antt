@@ -205,7 +205,7 @@ module _ (config : Config) where
   small_evict c (Some i) h = record { outs = omega arith; noted = omega arith; views = h }
 
   pub small_task : (c : ControllerState) (task : Task) → FitsConfig config c → IsSmall config (task_turn config c task)
-  small_task c (Take packet) f = small_takes c packet f
+  small_task c (Take packet) f = small_takes c packet.now f
   small_task c Tick f = small_tick (is_some c.round) c f.views
   small_task c Recover f = record {
     outs = omega (arith, length-append (to_clients 0 config.clients (Ask c.next_round)) (stores_of config c.next_job (snapshot_stores c)), length_clients 0 config.clients (Ask c.next_round), length_stores config c.next_job (snapshot_stores c), length_numbered (view_records c.last.views), length_records c.last.views, f.views);

@@ -14,7 +14,7 @@ tick_turn c (Some t) = t
 
 -- what the controller does
 abbrev pub task_turn : Config → ControllerState → Task → Turn ControllerState
-task_turn config c (Take packet) = controller_takes config c packet
+task_turn config c (Take packet) = controller_takes config c packet.now
 task_turn config c Tick = tick_turn c (tick c)
 task_turn config c Recover = start_recovery config c
 task_turn config c (Want key) = idle (wanted key c)

@@ -71,7 +71,7 @@ impl<S: Switch + Drop, K: Keeper + Drop> Parties<S, K> {
         match to {
             Party::Client(number) => self.client_handles(number, packet),
             Party::Switch => self.switch_handles(packet),
-            Party::Controller => self.control(&Task::Take(*packet)),
+            Party::Controller => self.control(&Task::Take(packet)),
             Party::Server(_) => unreachable!(),
         }
     }

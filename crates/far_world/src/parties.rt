@@ -129,10 +129,10 @@ impl<S: Switch + Drop, K: Keeper + Drop> Parties<S, K> {
             (switch_turn self.old.state self.old.state.bag packet.now (pass self.old.state.switch packet.now))) }
         ensures err { OnErr result (self.new ≡ self.old) }
     {
-        make_room(&mut self.bag, &mut self.log, &mut self.turn, 2, 2)?;
-        pass_through(&mut self.switch, packet, &mut self.turn);
+        self.bag.reserve(2)?;
+        self.log.reserve(2)?;
+        pass_through(&mut self.switch, packet, &mut self.bag, &mut self.log);
         count_pass(&mut self.passes, packet);
-        post(&mut self.bag, &mut self.log, Party::Switch, &self.turn);
         Ok(())
     }
 

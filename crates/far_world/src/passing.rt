@@ -1,59 +1,72 @@
-ghost use Rattle.std.specs.Prelude.{◌≡◌, ℕ, ◌+◌, ◌^◌, ◌<◌, ◌≤◌, ◌++◌, slice_index, vec_len, vec_capacity, IfSome};
+ghost use Rattle.std.specs.Prelude.{◌≡◌, ℕ, ◌+◌, ◌^◌, ◌<◌, ◌≤◌, ◌++◌, ◌∷◌, [], length, map, slice_index, IfSome};
+ghost use Rattle.far_base.specs.declared.party.Party.TheVariants.{Switch as TheSwitch};
+ghost use Rattle.far_model.specs.Parties.{messages_from};
 ghost use Rattle.far_model.specs.Pass as model;
-ghost use Rattle.far_model.specs.Pass.{emitted_note, emitted_notes};
+ghost use Rattle.far_model.specs.Pass.{emitted_note, emitted_notes, outs_of};
 ghost use Rattle.far_model.specs.Passes as counts;
-ghost use Rattle.far_world.specs.Passing.{number_note, number_noted, numbered_by, place_of};
+ghost use Rattle.far_model.specs.State.{line_at};
+ghost use Rattle.far_world.specs.Passing.{noted_by, number_note, number_noted, numbered_by, place_of};
+ghost use Rattle.far_world.specs.Steps.{Logs};
 
-use crate::turn::Turn;
-use far_base::{Body, LogEntry, Out, Packet};
+use crate::bag::Bag;
+use far_base::{Body, LogEntry, Out, Packet, Party};
+use far_history::Log;
 use switch_core::{Emit, Switch};
 
+/// Notes what happened in the present step.
+fn note(log: &mut Log, entry: &LogEntry)
+    requires { 0 < log.old.room }
+    ensures lines { log.new.lines ≡ log.old.lines ++ map (line_at log.old.steps) (entry.now ∷ []) }
+    ensures steps { log.new.steps ≡ log.old.steps }
+    ensures room { log.old.room ≤ log.new.room + 1 }
+{
+    let moment = log.steps();
+    log.note(moment, entry);
+}
+
 /// Notes the number that a write of this operation got, where the packet that left for it has one.
-fn note_number(op: u32, packet: &Packet, turn: &mut Turn)
-    requires { vec_len turn.old.notes < vec_capacity turn.old.notes }
-    ensures notes { turn.new.notes.items ≡ turn.old.notes.items ++ number_note op packet.now }
-    ensures few { vec_len turn.new.notes ≤ vec_len turn.old.notes + 1 }
-    ensures out { turn.new.out ≡ turn.old.out }
-    ensures room { vec_capacity turn.new.notes ≡ vec_capacity turn.old.notes }
+fn note_number(op: u32, packet: &Packet, log: &mut Log)
+    requires { 0 < log.old.room }
+    ensures lines { log.new.lines ≡ log.old.lines ++ map (line_at log.old.steps) (number_note op packet.now) }
+    ensures steps { log.new.steps ≡ log.old.steps }
+    ensures room { log.old.room ≤ log.new.room + 1 }
 {
     match packet {
-        Packet::WriteFwd { num, .. } => turn.note(LogEntry::Numbered { op, num: *num }),
-        Packet::WriteAns { num, .. } => turn.note(LogEntry::Numbered { op, num: *num }),
+        Packet::WriteFwd { num, .. } => note(log, &LogEntry::Numbered { op, num: *num }),
+        Packet::WriteAns { num, .. } => note(log, &LogEntry::Numbered { op, num: *num }),
         _ => {}
     }
 }
 
 /// Notes the number that a write got. It stands in the first packet that left.
-fn note_number_of(op: u32, first: &Option<Out>, turn: &mut Turn)
-    requires { vec_len turn.old.notes < vec_capacity turn.old.notes }
-    ensures notes { turn.new.notes.items ≡ turn.old.notes.items ++ number_noted op first.now }
-    ensures few { vec_len turn.new.notes ≤ vec_len turn.old.notes + 1 }
-    ensures out { turn.new.out ≡ turn.old.out }
-    ensures room { vec_capacity turn.new.notes ≡ vec_capacity turn.old.notes }
+fn note_number_of(op: u32, first: &Option<Out>, log: &mut Log)
+    requires { 0 < log.old.room }
+    ensures lines { log.new.lines ≡ log.old.lines ++ map (line_at log.old.steps) (number_noted op first.now) }
+    ensures steps { log.new.steps ≡ log.old.steps }
+    ensures room { log.old.room ≤ log.new.room + 1 }
 {
     if let Some(out) = first {
-        note_number(op, &out.packet, turn);
+        note_number(op, &out.packet, log);
     }
 }
 
 /// Notes the number that the packet, where it is a write, got.
-fn note_numbered(packet: &Packet, first: &Option<Out>, turn: &mut Turn)
-    requires { vec_len turn.old.notes < vec_capacity turn.old.notes }
-    ensures notes { turn.new.notes.items ≡ turn.old.notes.items ++ numbered_by packet.now first.now }
-    ensures few { vec_len turn.new.notes ≤ vec_len turn.old.notes + 1 }
-    ensures out { turn.new.out ≡ turn.old.out }
-    ensures room { vec_capacity turn.new.notes ≡ vec_capacity turn.old.notes }
+fn note_numbered(packet: &Packet, first: &Option<Out>, log: &mut Log)
+    requires { 0 < log.old.room }
+    ensures lines { log.new.lines ≡ log.old.lines ++ map (line_at log.old.steps) (numbered_by packet.now first.now) }
+    ensures steps { log.new.steps ≡ log.old.steps }
+    ensures room { log.old.room ≤ log.new.room + 1 }
 {
     if let Packet::WriteReq { op, .. } = packet {
-        note_number_of(*op, first, turn);
+        note_number_of(*op, first, log);
     }
 }
 
 /// Notes the answer that a packet is, where it is one.
-fn note_answer(packet: &Packet, turn: &mut Turn)
-    requires { vec_len turn.old.notes < vec_capacity turn.old.notes }
-    ensures notes { turn.new.notes.items ≡ turn.old.notes.items ++ emitted_note packet.now }
-    ensures out { turn.new.out ≡ turn.old.out }
+fn note_answer(packet: &Packet, log: &mut Log)
+    requires { 0 < log.old.room }
+    ensures lines { log.new.lines ≡ log.old.lines ++ map (line_at log.old.steps) (emitted_note packet.now) }
+    ensures steps { log.new.steps ≡ log.old.steps }
 {
     match packet {
         Packet::GetAns {
@@ -62,30 +75,61 @@ fn note_answer(packet: &Packet, turn: &mut Turn)
             body,
             near,
             ..
-        } => turn.note(LogEntry::Emitted {
-            op: *op,
-            num: *num,
-            body: *body,
-            near: *near,
-        }),
-        Packet::WriteAns { op, num, kept, .. } => turn.note(LogEntry::Emitted {
-            op: *op,
-            num: *num,
-            body: Body::absent(),
-            near: *kept,
-        }),
+        } => note(
+            log,
+            &LogEntry::Emitted {
+                op: *op,
+                num: *num,
+                body: *body,
+                near: *near,
+            },
+        ),
+        Packet::WriteAns { op, num, kept, .. } => note(
+            log,
+            &LogEntry::Emitted {
+                op: *op,
+                num: *num,
+                body: Body::absent(),
+                near: *kept,
+            },
+        ),
         _ => {}
     }
 }
 
 /// Notes the answer that left.
-fn note_emitted(first: &Option<Out>, turn: &mut Turn)
-    requires { vec_len turn.old.notes < vec_capacity turn.old.notes }
-    ensures notes { turn.new.notes.items ≡ turn.old.notes.items ++ emitted_notes first.now }
-    ensures out { turn.new.out ≡ turn.old.out }
+fn note_emitted(first: &Option<Out>, log: &mut Log)
+    requires { 0 < log.old.room }
+    ensures lines { log.new.lines ≡ log.old.lines ++ map (line_at log.old.steps) (emitted_notes first.now) }
+    ensures steps { log.new.steps ≡ log.old.steps }
 {
     if let Some(out) = first {
-        note_answer(&out.packet, turn);
+        note_answer(&out.packet, log);
+    }
+}
+
+/// Counts one more step, and logs what is kept of a pass of the packet with which this left first.
+fn log_pass(log: &mut Log, packet: &Packet, first: &Option<Out>)
+    requires room { 2 ≤ log.old.room }
+    requires steps { log.old.steps + 1 < 2 ^ 64 }
+    ensures { Logs log.old log.new (noted_by packet.now first.now) }
+{
+    let moment = log.steps() + 1;
+    log.set_steps(moment);
+    note_numbered(packet, first, log);
+    note_emitted(first, log);
+}
+
+/// Puts what left the switch behind the other messages, where something did.
+fn post_if(bag: &mut Bag, out: &Option<Out>)
+    requires room { 0 < bag.old.room }
+    requires few { length bag.old.messages < 2 ^ 31 }
+    ensures messages { bag.new.messages ≡ bag.old.messages ++ messages_from TheSwitch (outs_of out.now) }
+    ensures room { bag.old.room ≤ bag.new.room + 1 }
+    ensures few { length bag.new.messages ≤ length bag.old.messages + 1 }
+{
+    if let Some(out) = out {
+        bag.post(Party::Switch, out);
     }
 }
 
@@ -119,21 +163,22 @@ pub(crate) fn count_pass(passes: &mut [u64; 9], packet: &Packet)
     }
 }
 
-/// A packet passes through the switch: what leaves goes into the turn, and what the log keeps of it.
-pub(crate) fn pass_through<S: Switch>(switch: &mut S, packet: &Packet, turn: &mut Turn)
+/// A packet passes through the switch: what leaves goes behind the other messages, and one more step is logged, with
+/// what is kept of it.
+pub(crate) fn pass_through<S: Switch>(switch: &mut S, packet: &Packet, bag: &mut Bag, log: &mut Log)
     requires counter { (S.seen switch.old).counter + 1 < 2 ^ 64 }
-    requires out { vec_len turn.old.out + 2 ≤ vec_capacity turn.old.out }
-    requires notes { vec_len turn.old.notes + 2 ≤ vec_capacity turn.old.notes }
+    requires bag_room { 2 ≤ bag.old.room }
+    requires few { length bag.old.messages + 2 < 2 ^ 31 }
+    requires log_room { 2 ≤ log.old.room }
+    requires steps { log.old.steps + 1 < 2 ^ 64 }
     ensures view { S.seen switch.new ≡ (model.pass (S.seen switch.old) packet.now).view }
-    ensures out { turn.new.out.items ≡ turn.old.out.items ++ model.passed_out (model.pass
-        (S.seen switch.old) packet.now) }
-    ensures notes { turn.new.notes.items ≡ turn.old.notes.items ++ model.pass_notes packet.now (model.pass
-        (S.seen switch.old) packet.now) }
+    ensures bag { bag.new.messages ≡ bag.old.messages ++ messages_from TheSwitch (model.passed_out (model.pass
+        (S.seen switch.old) packet.now)) }
+    ensures log { Logs log.old log.new (model.pass_notes packet.now (model.pass (S.seen switch.old) packet.now)) }
 {
     let mut emit = Emit::none();
     switch.pass_into(packet, &mut emit);
-    turn.send_if(&emit.first);
-    turn.send_if(&emit.second);
-    note_numbered(packet, &emit.first, turn);
-    note_emitted(&emit.first, turn);
+    post_if(bag, &emit.first);
+    post_if(bag, &emit.second);
+    log_pass(log, packet, &emit.first);
 }

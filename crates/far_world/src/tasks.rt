@@ -5,9 +5,9 @@ use snapshot_core::Snapshot;
 
 /// What the controller is asked in one step.
 #[derive(Clone, Copy)]
-pub(crate) enum Task {
+pub(crate) enum Task<'a> {
     /// To take a packet.
-    Take(Packet),
+    Take(&'a Packet),
     /// To serve its first want.
     Tick,
     /// To begin a recovery.
@@ -22,7 +22,7 @@ pub(crate) enum Task {
 
 ghost use Rattle.std.specs.Prelude.{◌≡◌, ◌+◌, ◌^◌, ◌<◌, ◌≤◌, ◌++◌, [], ◌∷◌, length, vec_len, vec_capacity, OnOk, OnErr};
 ghost use Rattle.std.specs.Prelude.{IsTrue, is_some};
-ghost use Rattle.far_model.specs.Controller.{tick};
+ghost use Rattle.far_model.specs.Controller.{controller_takes, tick};
 ghost use Rattle.far_model.specs.Snapshots.{view_items, view_records};
 ghost use Rattle.controller_core.specs.ControllerView.{at_state};
 ghost use Rattle.controller_core.specs.Room.{HasRoom};
@@ -114,16 +114,16 @@ pub(crate) fn leaves_first_want(controller: &Controller, task: &Task) -> bool
 /// The controller takes a packet. At an error nothing is changed.
 fn take(controller: &mut Controller, packet: &Packet, turn: &mut Turn) -> Result<(), Memory>
     requires room { HasRoom controller.old.state }
-    requires small { IsSmall controller.old.config (task_turn controller.old.config controller.old.state
-        (Task.Take packet.now)) }
+    requires small { IsSmall controller.old.config (controller_takes controller.old.config controller.old.state
+        packet.now) }
     requires slots { controller.old.config.slots < 2 ^ 32 }
     requires notes { vec_len turn.old.notes + controller.old.config.slots + 1 ≤ vec_capacity turn.old.notes }
     ensures state { OnOk result (controller.new ≡ at_state controller.old
-        (task_turn controller.old.config controller.old.state (Task.Take packet.now)).state) }
+        (controller_takes controller.old.config controller.old.state packet.now).state) }
     ensures out { OnOk result (turn.new.out.items ≡ turn.old.out.items ++
-        (task_turn controller.old.config controller.old.state (Task.Take packet.now)).out) }
+        (controller_takes controller.old.config controller.old.state packet.now).out) }
     ensures notes { OnOk result (turn.new.notes.items ≡ turn.old.notes.items ++
-        (task_turn controller.old.config controller.old.state (Task.Take packet.now)).notes) }
+        (controller_takes controller.old.config controller.old.state packet.now).notes) }
     ensures err { OnErr result (controller.new ≡ controller.old) }
 {
     let note = controller.deliver(packet, &mut turn.out)?;

@@ -1,7 +1,6 @@
 ghost use Rattle.std.specs.Prelude.{◌≡◌, ◌+◌, ◌-◌, ◌^◌, ◌<◌, ◌≤◌, ◌++◌, [], ◌∷◌, length, vec_len, vec_capacity};
 ghost use Rattle.std.specs.Prelude.{OnOk};
 ghost use Rattle.far_model.specs.Parties.{messages_from, to_party};
-ghost use Rattle.far_model.specs.Pass.{outs_of};
 ghost use Rattle.far_world.specs.Steps.{Logs};
 
 use crate::bag::Bag;
@@ -62,18 +61,6 @@ impl Turn {
                 packet: *packet,
             },
         );
-    }
-
-    /// Sends a packet where there is one, for which there is room.
-    pub(crate) fn send_if(&mut self, out: &Option<Out>)
-        requires { vec_len self.old.out < vec_capacity self.old.out }
-        ensures out { self.new.out.items ≡ self.old.out.items ++ outs_of out.now }
-        ensures notes { self.new.notes ≡ self.old.notes }
-        ensures room { vec_capacity self.new.out ≡ vec_capacity self.old.out }
-    {
-        if let Some(out) = out {
-            put_last(&mut self.out, out);
-        }
     }
 
     /// Notes what happened, for which there is room.

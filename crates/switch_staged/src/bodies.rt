@@ -8,8 +8,8 @@ ghost use Rattle.switch_staged.specs.Stages.{InReach, PlaceBelow, IsPart, all_ce
 ghost use Rattle.switch_staged.specs.Stages.{cell_after as cell_left, arrays_after, carried_all};
 ghost use Rattle.switch_staged.specs.Heads.{writes as is_writing};
 
-use crate::cells::{BODY_CELLS, CELL_LENGTH, Cell};
-use crate::flight::{Act, Flight};
+use crate::cells::{BODY_CELLS, CELL_LENGTH, Cell, Cells};
+use crate::flight::{Act, Passage};
 use far_base::Memory;
 use register_stages::{PassToken, RegArray};
 use std::alloc::Global;
@@ -26,7 +26,15 @@ impl Act {
     }
 }
 
-impl Flight {
+/// Cell `at` of a body.
+fn cell_of(cells: &Cells, at: usize) -> Cell
+    requires { at < 32 }
+    ensures { result ≡ slice_index_or cells.now at zero_cell }
+{
+    cells[at]
+}
+
+impl<'a> Passage<'a> {
     /// The cell that stage `at` of the body leaves.
     #[tactic(auto, unfolding(crate::specs::Stages::cell_after))]
     fn cell_after(&self, at: usize, writes: bool, old: Cell) -> Cell
@@ -34,7 +42,11 @@ impl Flight {
         requires writes { writes ≡ is_writing self.now.act }
         ensures { result ≡ cell_left at self.now old }
     {
-        if writes { self.cells[at] } else { old }
+        if writes {
+            cell_of(&self.cells, at)
+        } else {
+            old
+        }
     }
 }
 
@@ -45,7 +57,7 @@ fn visit_body(
     at: usize,
     place: u32,
     writes: bool,
-    flight: &Flight,
+    flight: &Passage,
 ) -> Cell
     requires cell { place < length (cells_of array.old) }
     requires at { at < 32 }
@@ -76,7 +88,7 @@ fn pass_cell(
     at: usize,
     place: u32,
     writes: bool,
-    flight: &mut Flight,
+    flight: &mut Passage,
 )
     requires goes { flight.old.place ≡ Some place }
     requires writes { writes ≡ is_writing flight.old.act }
@@ -94,7 +106,7 @@ fn pass_cell(
 }
 
 /// Stage `at` of the body, counted from 0.
-pub fn pass_body(array: &mut RegArray<Cell>, token: &mut PassToken, at: usize, flight: &mut Flight)
+pub fn pass_body(array: &mut RegArray<Cell>, token: &mut PassToken, at: usize, flight: &mut Passage)
     requires cell { InReach flight.old.place (cells_of array.old) }
     requires at { at < 32 }
     requires token { token.old ≤ place_of array.old }
@@ -117,7 +129,7 @@ fn pass_arrays(
     token: &mut PassToken,
     slots: u32,
     place: u32,
-    flight: &mut Flight,
+    flight: &mut Passage,
 )
     requires goes { flight.old.place ≡ Some place }
     requires cell { place < slots }
@@ -141,7 +153,7 @@ pub fn pass_bodies(
     arrays: &mut Vec<RegArray<Cell>>,
     token: &mut PassToken,
     slots: u32,
-    flight: &mut Flight,
+    flight: &mut Passage,
 )
     requires cell { PlaceBelow flight.old.place slots }
     requires count { length arrays.old.items ≡ 32 }

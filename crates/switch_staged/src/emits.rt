@@ -8,7 +8,7 @@ ghost use Rattle.switch_staged.specs.Emits as spec;
 ghost use Rattle.switch_staged.specs.Rows.{joined};
 ghost use Rattle.switch_staged.specs.Shapes.{shaped};
 
-use crate::flight::{Act, Flight, Part};
+use crate::flight::{Act, Part, Passage};
 use crate::rows::join_cells;
 use far_base::{Body, Config, Key, Out, Packet, Party, Record};
 
@@ -34,7 +34,7 @@ fn read_fwd(config: &Config, caller: u32, op: u32, key: Key, tag: u64, out: &mut
     *out = Some(Out { to, packet });
 }
 
-impl Flight {
+impl<'a> Passage<'a> {
     /// The body that the slot had.
     fn old_body(&self) -> Body
         ensures { result ≡ (spec.old_slot self.now).body }
@@ -233,7 +233,7 @@ impl Flight {
         requires none { out.old ≡ None }
         ensures { out.new ≡ spec.first_for config.now self.now self.now.packet }
     {
-        match &self.packet {
+        match self.packet {
             Packet::GetReq { caller, op, key } => self.read_out(config, *caller, *op, *key, out),
             Packet::WriteReq {
                 caller,
@@ -316,7 +316,7 @@ impl Flight {
         requires { out.old ≡ None }
         ensures { out.new ≡ spec.second_for self.now self.now.packet }
     {
-        match &self.packet {
+        match self.packet {
             Packet::GetReq { key, .. } | Packet::WriteReq { key, .. } => self.hot_or_part(
                 *key, out,
             ),

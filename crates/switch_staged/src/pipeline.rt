@@ -242,6 +242,7 @@ fn answer(config: &Config, flight: Option<Flight>) -> Option<Emit>
     match flight {
         Some(flight) => {
             let mut emit = Emit::none();
+            let flight = flight.passage();
             flight.put_first(config, &mut emit.first);
             flight.put_second(&mut emit.second);
             Some(emit)

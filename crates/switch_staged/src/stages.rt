@@ -19,7 +19,7 @@ ghost use Rattle.switch_staged.specs.Stages.{parted_with, taken_after, part_for,
 ghost use Rattle.switch_staged.specs.Stages.{parted_at, hots_after, warmed, touch_key, key_touched};
 
 use crate::cells::{Cells, Gate, Head, HotCell, Mark, Shape, Taken};
-use crate::flight::{Act, Flight, Part};
+use crate::flight::{Act, Part, Passage};
 use crate::rows::{cells_of_body, no_cells};
 use far_base::{Config, Key, Packet};
 use register_stages::{PassToken, RegArray};
@@ -295,17 +295,17 @@ fn put_cells_due(act: Act, packet: &Packet, cells: &mut Cells)
     }
 }
 
-impl Flight {
+impl<'a> Passage<'a> {
     /// The packet has met its slot, or one that is not of its key.
     fn meet(&mut self, old: Head)
         ensures { self.new ≡ headed_with old self.old }
     {
-        if !old.is_own(&self.packet) {
+        if !old.is_own(self.packet) {
             self.place = None;
             return;
         }
-        let act = old.act(&self.packet);
-        put_cells_due(act, &self.packet, &mut self.cells);
+        let act = old.act(self.packet);
+        put_cells_due(act, self.packet, &mut self.cells);
         self.found = old;
         self.act = act;
     }
@@ -317,7 +317,7 @@ pub fn pass_gate(
     token: &mut PassToken,
     config: &Config,
     packet: &Packet,
-    flight: &mut Flight,
+    flight: &mut Passage,
 )
     requires waiting { flight.old ≡ waiting packet.now }
     requires cell { length (cells_of gates.old) ≡ 1 }
@@ -344,7 +344,7 @@ pub fn pass_gate(
 }
 
 /// Stage 2: the heads of the slots.
-pub fn pass_heads(heads: &mut RegArray<Head>, token: &mut PassToken, flight: &mut Flight)
+pub fn pass_heads(heads: &mut RegArray<Head>, token: &mut PassToken, flight: &mut Passage)
     requires cell { InReach flight.old.place (cells_of heads.old) }
     requires place { place_of heads.old ≡ 2 }
     requires token { token.old ≤ 2 }
@@ -359,7 +359,7 @@ pub fn pass_heads(heads: &mut RegArray<Head>, token: &mut PassToken, flight: &mu
     let old = heads.visit(
         token,
         place,
-        |head| head.after(flight.gate.counter, &flight.packet),
+        |head| head.after(flight.gate.counter, flight.packet),
     );
     flight.meet(old);
 }
@@ -402,13 +402,13 @@ fn same_mark(a: &Option<Mark>, b: &Option<Mark>) -> bool
     }
 }
 
-impl Flight {
+impl<'a> Passage<'a> {
     /// Whether the slot's part is to leave, where it was not taken.
     #[tactic(auto, unfolding(crate::specs::Stages::wants_part))]
     fn wants_part(&self) -> bool
         ensures { result ≡ wants_part self.now self.now.packet }
     {
-        match self.packet {
+        match *self.packet {
             Packet::SnapRead { id, .. } => id == self.gate.snap,
             _ => self.found.changes(self.act),
         }
@@ -456,7 +456,7 @@ impl Flight {
 }
 
 /// Stage 3: the parts that were taken.
-pub fn pass_taken(cells: &mut RegArray<Taken>, token: &mut PassToken, flight: &mut Flight)
+pub fn pass_taken(cells: &mut RegArray<Taken>, token: &mut PassToken, flight: &mut Passage)
     requires cell { InReach flight.old.place (cells_of cells.old) }
     requires place { place_of cells.old ≡ 3 }
     requires token { token.old ≤ 3 }
@@ -491,7 +491,7 @@ pub fn pass_hot(
     cells: &mut RegArray<HotCell>,
     token: &mut PassToken,
     config: &Config,
-    flight: &mut Flight,
+    flight: &mut Passage,
 )
     requires cell { length (cells_of cells.old) ≡ 256 }
     requires place { place_of cells.old ≡ 4 }
@@ -501,7 +501,7 @@ pub fn pass_hot(
     ensures token { token.new ≤ 5 }
     ensures place { place_of cells.new ≡ 4 }
 {
-    let Some(key) = touched_key(flight.place, &flight.packet) else {
+    let Some(key) = touched_key(flight.place, flight.packet) else {
         flight.hot = false;
         return;
     };

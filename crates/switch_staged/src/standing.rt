@@ -10,7 +10,7 @@ ghost use Rattle.switch_staged.specs.Overlap.{StaysBelow, kept, sent, stepped, s
 
 use crate::bodies::pass_body;
 use crate::cells::{Cell, Gate, Head, HotCell, Taken};
-use crate::flight::Flight;
+use crate::flight::{Flight, Passage};
 use crate::stages::{pass_gate, pass_heads, pass_hot, pass_taken};
 use crate::table::pass_table;
 use far_base::{Config, Packet};
@@ -33,9 +33,9 @@ pub fn tick_gate(
 {
     match packet {
         Some(packet) => {
-            let mut flight = Flight::new(&packet);
+            let mut flight = Passage::new(&packet);
             pass_gate(gates, &mut PassToken::start(), config, &packet, &mut flight);
-            Some(flight)
+            Some(flight.flight())
         }
         None => None,
     }
@@ -48,9 +48,10 @@ pub fn tick_table(lookup: &mut Lookup, flight: Option<Flight>) -> Option<Flight>
     ensures flight { result ≡ sent looked_up lookup.old.bound flight }
 {
     match flight {
-        Some(mut flight) => {
+        Some(flight) => {
+            let mut flight = flight.passage();
             pass_table(lookup, &mut flight);
-            Some(flight)
+            Some(flight.flight())
         }
         None => None,
     }
@@ -65,9 +66,10 @@ pub fn tick_heads(heads: &mut RegArray<Head>, flight: Option<Flight>) -> Option<
     ensures place { place_of heads.new ≡ 2 }
 {
     match flight {
-        Some(mut flight) => {
+        Some(flight) => {
+            let mut flight = flight.passage();
             pass_heads(heads, &mut PassToken::start(), &mut flight);
-            Some(flight)
+            Some(flight.flight())
         }
         None => None,
     }
@@ -93,11 +95,12 @@ pub fn tick_taken(
     ensures hot_place { place_of hot.new ≡ 4 }
 {
     match flight {
-        Some(mut flight) => {
+        Some(flight) => {
+            let mut flight = flight.passage();
             let mut token = PassToken::start();
             pass_taken(taken, &mut token, &mut flight);
             pass_hot(hot, &mut token, config, &mut flight);
-            Some(flight)
+            Some(flight.flight())
         }
         None => None,
     }
@@ -113,9 +116,10 @@ fn tick_body(array: &mut RegArray<Cell>, at: usize, flight: Option<Flight>) -> O
     ensures place { place_of array.new ≡ place_of array.old }
 {
     match flight {
-        Some(mut flight) => {
+        Some(flight) => {
+            let mut flight = flight.passage();
             pass_body(array, &mut PassToken::start(), at, &mut flight);
-            Some(flight)
+            Some(flight.flight())
         }
         None => None,
     }

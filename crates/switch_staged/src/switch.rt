@@ -1,7 +1,7 @@
 //! The switch in stages.
 use crate::bodies::{empty_bodies, pass_bodies, reset_bodies};
 use crate::cells::{Cell, Gate, HOT_CELLS, Head, HotCell, Taken};
-use crate::flight::Flight;
+use crate::flight::Passage;
 use crate::stages::{pass_gate, pass_heads, pass_hot, pass_taken};
 use crate::table::pass_table;
 use far_base::{Config, Memory, Packet};
@@ -71,7 +71,7 @@ impl StagedSwitch {
         ensures second { emit.new.second ≡ (model.pass self.old packet.now).second }
     {
         let mut token = PassToken::start();
-        let mut flight = Flight::new(packet);
+        let mut flight = Passage::new(packet);
         pass_gate(
             &mut self.gate,
             &mut token,

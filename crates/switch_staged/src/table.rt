@@ -3,7 +3,7 @@ ghost use Rattle.std.specs.Prelude.{◌≡◌, length, true};
 ghost use Rattle.switch_staged.specs.Heads.{place_for, bound_after};
 ghost use Rattle.switch_staged.specs.Stages.{table_after, looked_up, AdmitsWithin};
 
-use crate::flight::Flight;
+use crate::flight::Passage;
 use far_base::Packet;
 use lookup_table::Lookup;
 
@@ -38,7 +38,7 @@ fn bind_for(lookup: &mut Lookup, packet: &Packet)
 }
 
 /// Stage 1: the table.
-pub fn pass_table(lookup: &mut Lookup, flight: &mut Flight)
+pub fn pass_table(lookup: &mut Lookup, flight: &mut Passage)
     requires { flight.old.live ≡ true → AdmitsWithin (length lookup.old.bound) flight.old.packet }
     ensures table { lookup.new.bound ≡ table_after lookup.old.bound flight.old }
     ensures flight { flight.new ≡ looked_up lookup.old.bound flight.old }
@@ -47,7 +47,7 @@ pub fn pass_table(lookup: &mut Lookup, flight: &mut Flight)
         flight.place = None;
         return;
     }
-    let place = place_of(lookup, &flight.packet);
-    bind_for(lookup, &flight.packet);
+    let place = place_of(lookup, flight.packet);
+    bind_for(lookup, flight.packet);
     flight.place = place;
 }

@@ -8,7 +8,7 @@ pub pass_cell-requires-clause-goes : goal.pass_cell-requires-clause-goes
 pass_cell-requires-clause-goes c = c.loop-k.invariant.place ∙ c.requires.goes
 
 pub pass_cell-requires-clause-writes : goal.pass_cell-requires-clause-writes
-pass_cell-requires-clause-writes c = c.writes-writes.ensures ∙ ap is_writing (sym c.loop-k.invariant.act)
+pass_cell-requires-clause-writes c = c.writes-writes.ensures ∙ ap is_writing (ap (λ f. f.act) c.flight.view_is ∙ sym c.loop-k.invariant.act)
 
 pub pass_cell-requires-clause-cell : goal.pass_cell-requires-clause-cell
 pass_cell-requires-clause-cell c = subst (λ n. c.args.place < n) (sym (part_slots 5 c.args.slots c.loop-k.arrays c.loop-k.k c.index-arrays-k.result c.loop-k.invariant.part (omega (arith, c.loop-k.invariant.count, c.loop-k-test.true, c.requires.count)))) c.requires.cell
