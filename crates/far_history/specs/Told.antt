@@ -31,8 +31,10 @@ noted_entry moment body (Sent op line) table = slice_set table op
 noted_entry moment body (Numbered op num) table = slice_set table op
     (record (slice_index_or table op unheard) { numbered = Some num })
 noted_entry moment body (Emitted op num near) table = slice_set table op
-    (record (slice_index_or table op unheard) { emitted = Some
-    (record { moment = moment; num = num; near = near; body = body }) })
+    (record (slice_index_or table op unheard) {
+      emitted = Some
+          (record { moment = moment; num = num; near = near; body = body });
+    })
 noted_entry moment body (Answered op) table = slice_set table op
     (record (slice_index_or table op unheard) { answered = Some moment })
 noted_entry moment body _ table = table
