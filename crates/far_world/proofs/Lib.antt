@@ -1,6 +1,5 @@
 mod Bytes
 mod Choosing
-mod Passed
 mod Reaching
 mod Lists
 mod Scripts
