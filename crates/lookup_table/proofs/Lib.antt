@@ -5,3 +5,4 @@ pub mod Adds
 pub mod Places
 pub mod Unique
 pub mod Marks
+pub mod Empty

@@ -1,12 +1,12 @@
 -- A key without a mark is not bound, and marks are made with each new pair.
-use Rattle.std.proofs.Common.{◌≡◌, ℕ, zero, suc, ◌<◌, Bool, true, false, List, [], ◌∷◌, ◌⊎◌, inl, inr, length, replicate, set, get_or, refl, sym, ◌∙◌, subst, arith, Option, None, Some}
+use Rattle.std.proofs.Common.{◌≡◌, ℕ, zero, suc, ◌<◌, true, List, [], ◌∷◌, ◌⊎◌, inl, inr, length, replicate, set, get_or, refl, sym, ◌∙◌, subst, arith, Option, None, Some}
 use Rattle.std.specs.Prelude.{is_some}
 use Rattle.std.proofs.lemmas.List.{length-set, length-replicate}
-use Rattle.std.proofs.lemmas.Option.{none-some}
 use Rattle.lookup_table.specs.declared.place.Place.{Place}
 use Rattle.lookup_table.specs.Marks.{AreMarked, mark_of}
 use Rattle.lookup_table.specs.Sound.{IsSound}
 use Rattle.lookup_table.specs.Table.{LookupView, key_at, place_of}
+use Rattle.lookup_table.proofs.Empty.{none_keyed}
 use Rattle.lookup_table.proofs.Places.{pair_at}
 
 pub unmarked : (key : List ℕ) (t : LookupView) (marks : List (Option ℕ)) → IsSound t → AreMarked t.bound marks → get_or marks (mark_of key) None ≡ None → place_of key t ≡ None
@@ -19,14 +19,9 @@ unmarked key t marks h m none = go (place_of key t) refl
         let yes : is_some (get_or marks (mark_of key) None) ≡ true = m.each pair.slot key pair.keyed in
         absurd cc
 
-none_there : (n slot : ℕ) (key : List ℕ) → key_at (replicate n None) slot ≡ Some key → ⊥
-none_there zero slot key e = absurd (none-some key e)
-none_there (suc n) zero key e = absurd cc
-none_there (suc n) (suc slot) key e = none_there n slot key e
-
 -- no pair needs a mark
-pub none_marked : (n : ℕ) → AreMarked (replicate n None) (replicate 4096 None)
-none_marked n = let none : Option ℕ = None in record { count = length-replicate 4096 none; each = λ slot key e. absurd (none_there n slot key e) }
+pub none_marked : (n : ℕ) → AreMarked (replicate n None) (replicate 8192 None)
+none_marked n = let none : Option ℕ = None in record { count = length-replicate 8192 none; each = λ slot key e. absurd (none_keyed n slot key e) }
 
 still_there : (bound : List (Option (List ℕ))) (s slot : ℕ) (key : List ℕ) → key_at (set bound s None) slot ≡ Some key → key_at bound slot ≡ Some key
 still_there [] s slot key e = e
@@ -57,7 +52,7 @@ other_there (b ∷ bs) zero (suc slot) new key e = inr e
 other_there (b ∷ bs) (suc s) zero new key e = inr e
 other_there (b ∷ bs) (suc s) (suc slot) new key e = other_there bs s slot new key e
 
-pub more_marked : (bound : List (Option (List ℕ))) (marks : List (Option ℕ)) (s : ℕ) (new : List ℕ) → mark_of new < 4096 → AreMarked bound marks → AreMarked (set bound s (Some new)) (set marks (mark_of new) (Some s))
+pub more_marked : (bound : List (Option (List ℕ))) (marks : List (Option ℕ)) (s : ℕ) (new : List ℕ) → mark_of new < 8192 → AreMarked bound marks → AreMarked (set bound s (Some new)) (set marks (mark_of new) (Some s))
 more_marked bound marks s new l m = record {
   count = length-set marks (mark_of new) (Some s) ∙ m.count;
   each = λ slot key e. elim (other_there bound s slot new key e) [

@@ -6,13 +6,20 @@ ghost use Rattle.lookup_table.specs.Marks.{mark_of};
 use far_base::Key;
 
 /// The number of marks.
-pub(crate) const MARKS: usize = 4096;
+pub(crate) const MARKS: usize = 8192;
+
+/// 2 to the 64 over the golden ratio: a number by whose multiples keys that look alike are spread.
+const SPREAD: u64 = 11400714819323198485;
 
 /// The place of the key's mark; few keys share one.
-#[tactic(auto, unfolding(crate::specs::Marks::mark_of))]
+#[tactic(auto, unfolding(crate::specs::Marks::mark_of, far_base::specs::Key::front_of, far_base::specs::Key::back_of))]
 pub(crate) fn mark_of(key: &Key) -> usize
     ensures mark { result ≡ mark_of key.now }
-    ensures bound { result < 4096 }
+    ensures bound { result < 8192 }
 {
-    16 * key.cell() as usize + key.byte_sum() as usize % 16
+    let b = key.bytes();
+    let front = u64::from_be_bytes([b[0], b[1], b[2], b[3], b[4], b[5], b[6], b[7]]);
+    let back = u64::from_be_bytes([b[8], b[9], b[10], b[11], b[12], b[13], b[14], b[15]]);
+    let spread = front.wrapping_add(back).wrapping_mul(SPREAD);
+    (spread / (1 << 51)) as usize
 }

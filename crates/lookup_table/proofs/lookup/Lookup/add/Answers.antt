@@ -1,4 +1,4 @@
-use Rattle.std.proofs.Common.{◌≡◌, ◌+◌, ◌*◌, ◌<◌, ◌≤◌, sym, subst, arith, rules, length, set, Some, None, List, ℕ, true}
+use Rattle.std.proofs.Common.{◌≡◌, ◌+◌, ◌*◌, ◌<◌, ◌≤◌, sym, subst, arith, rules, length, set, Some, None, List, ℕ}
 use Rattle.std.specs.Prelude.{is_none}
 use Rattle.std.specs.List.{position}
 use Rattle.std.proofs.lemmas.Grind.{common_steps}
@@ -23,7 +23,7 @@ invariant_of-self c =
     let there : 4 * c.bucket-bucket.result + 4 ≤ length c.self.inside.cells.items = subst (λ (v : LookupView). 4 * c.bucket-bucket.result + 4 ≤ length v.cells) (sym c.self.view_is) c.bucket-bucket.ensures.there in
     let l = length-set c.self.inside.keys.items c.args.slot (Some c.args.key) in
     let free : position is_none (bucket_cells c.bucket-bucket.result c.self.inside.cells.items) ≡ Some c.in-Some.cell = first_of (search rules, grind (arith, common_steps)) in
-    (cell_added t c.args.key c.args.slot c.bucket-bucket.result c.in-Some.cell n home there free, (omega (arith, l, c.self.invariant.1.0), subst (λ n. AreMarked (set c.self.inside.keys.items c.args.slot (Some c.args.key)) (set c.self.inside.marks.items n (Some c.args.slot))) (sym c.mark_of.ensures.mark) (more_marked c.self.inside.keys.items c.self.inside.marks.items c.args.slot c.args.key (subst (λ n. n < 4096) c.mark_of.ensures.mark c.mark_of.ensures.bound) c.self.invariant.1.1)))
+    (cell_added t c.args.key c.args.slot c.bucket-bucket.result c.in-Some.cell n home there free, (omega (arith, l, c.self.invariant.1.0), subst (λ n. AreMarked (set c.self.inside.keys.items c.args.slot (Some c.args.key)) (set c.self.inside.marks.items n (Some c.args.slot))) (sym c.mark_of.ensures.mark) (more_marked c.self.inside.keys.items c.self.inside.marks.items c.args.slot c.args.key (subst (λ n. n < 8192) c.mark_of.ensures.mark c.mark_of.ensures.bound) c.self.invariant.1.1)))
 
 pub push_reserved-requires : goal.push_reserved-requires
 push_reserved-requires c =
@@ -51,5 +51,5 @@ invariant_of-self-in-None c =
     let l = length-set c.self.inside.keys.items c.args.slot (Some c.args.key) in
     let full : position is_none (bucket_cells c.bucket-bucket.result c.self.inside.cells.items) ≡ None = first_of (search rules, grind (arith, common_steps)) in (
       subst (λ (xs : List ℕ). IsSound (record { bound = set c.self.inside.keys.items c.args.slot (Some c.args.key); cells = c.self.inside.cells.items; overflow = xs })) (sym c.push_reserved.ensures.items) (overflow_added t c.args.key c.args.slot c.bucket-bucket.result n home there full),
-      (omega (arith, l, c.push_reserved.ensures.capacity, c.self.invariant.1.0), subst (λ n. AreMarked (set c.self.inside.keys.items c.args.slot (Some c.args.key)) (set c.self.inside.marks.items n (Some c.args.slot))) (sym c.mark_of.ensures.mark) (more_marked c.self.inside.keys.items c.self.inside.marks.items c.args.slot c.args.key (subst (λ n. n < 4096) c.mark_of.ensures.mark c.mark_of.ensures.bound) c.self.invariant.1.1)),
+      (omega (arith, l, c.push_reserved.ensures.capacity, c.self.invariant.1.0), subst (λ n. AreMarked (set c.self.inside.keys.items c.args.slot (Some c.args.key)) (set c.self.inside.marks.items n (Some c.args.slot))) (sym c.mark_of.ensures.mark) (more_marked c.self.inside.keys.items c.self.inside.marks.items c.args.slot c.args.key (subst (λ n. n < 8192) c.mark_of.ensures.mark c.mark_of.ensures.bound) c.self.invariant.1.1)),
     )

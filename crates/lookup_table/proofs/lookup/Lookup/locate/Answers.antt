@@ -1,4 +1,4 @@
-use Rattle.std.proofs.Common.{◌≡◌, false, get_or, None, sym, subst, rules, arith}
+use Rattle.std.proofs.Common.{◌≡◌, get_or, None, sym, subst, rules, arith}
 use Rattle.std.proofs.lemmas.Grind.{common_steps}
 use Rattle.lookup_table.specs.Marks.{mark_of}
 use Rattle.lookup_table.specs.Table.{LookupView, place_of}
