@@ -25,7 +25,7 @@ ghost use Rattle.std.specs.Prelude.{slice_index_or, OnOk};
 ghost use Rattle.std.specs.List.{count_by, list_any};
 ghost use Rattle.far_base.specs.declared.packet.Message.{Message};
 ghost use Rattle.far_model.specs.Events.{can_deliver, is_switch};
-ghost use Rattle.far_model.specs.Parties.{messages_from};
+ghost use Rattle.far_model.specs.Parties.{messages_from, to_party};
 ghost use Rattle.far_model.specs.Members.{is_empty};
 ghost use Rattle.far_world.specs.Choices.{nothing_sent};
 
@@ -61,6 +61,16 @@ impl Bag {
         self.wires.reserve(count)
     }
 
+    /// Adds a packet from one party to another, as its spelling. There is room for one more message.
+    pub(crate) fn put(&mut self, from: Party, to: Party, packet: &Packet)
+        requires room { 0 < self.old.room }
+        requires few { length self.old.messages < 2 ^ 31 }
+        ensures messages { self.new.messages ≡ self.old.messages ++ messages_from from (to_party to packet.now ∷ []) }
+        ensures room { self.old.room ≤ self.new.room + 1 }
+    {
+        self.wires.put(from, to, packet);
+    }
+
     /// Adds what a party sends, as its spelling. There is room for one more message.
     pub(crate) fn post(&mut self, from: Party, out: &Out)
         requires room { 0 < self.old.room }
@@ -68,7 +78,7 @@ impl Bag {
         ensures messages { self.new.messages ≡ self.old.messages ++ messages_from from (out.now ∷ []) }
         ensures room { self.old.room ≤ self.new.room + 1 }
     {
-        self.wires.put(from, out.to, &out.packet);
+        self.put(from, out.to, &out.packet);
     }
 
     /// Reads what the message at the place says from its bytes, and puts it where the packet stands.

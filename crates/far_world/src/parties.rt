@@ -5,7 +5,7 @@ use crate::passing::{count_pass, pass_through};
 use crate::seat::{Seat, config_of, ops_of};
 use crate::serving::recipient;
 use crate::tasks::{Task, do_task, leaves_first_want};
-use crate::turn::{Turn, make_room, post};
+use crate::turn::{Turn, count_step, make_room, post};
 use controller_core::Controller;
 use far_base::{LogEntry, Memory, Packet, Party, Plan};
 use far_history::Log;
@@ -148,19 +148,12 @@ impl<S: Switch + Drop, K: Keeper + Drop> Parties<S, K> {
         ensures later { self.old.keeper.faults ≤ self.new.keeper.faults }
         ensures cause { IsErrOf result StepFault.KeeperFailed → Rose self.old.keeper.faults self.new.keeper.faults }
     {
-        make_room(&mut self.bag, &mut self.log, &mut self.turn, 1, 0).map_err(
-            |_| StepFault::Memory,
-        )?;
+        self.bag.reserve(1).map_err(|_| StepFault::Memory)?;
         match &server_step(&mut self.keeper, number, packet) {
-            Ok(reply) => self.turn.send(recipient(reply), reply),
+            Ok(reply) => self.bag.put(Party::Server(number), recipient(reply), reply),
             Err(cause) => return Err(*cause),
         }
-        post(
-            &mut self.bag,
-            &mut self.log,
-            Party::Server(number),
-            &self.turn,
-        );
+        count_step(&mut self.log);
         Ok(())
     }
 

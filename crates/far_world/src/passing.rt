@@ -9,6 +9,7 @@ ghost use Rattle.far_world.specs.Passing.{noted_by, number_note, number_noted, n
 ghost use Rattle.far_world.specs.Steps.{Logs};
 
 use crate::bag::Bag;
+use crate::turn::count_step;
 use far_base::{Body, LogEntry, Out, Packet, Party};
 use far_history::Log;
 use switch_core::{Emit, Switch};
@@ -114,8 +115,7 @@ fn log_pass(log: &mut Log, packet: &Packet, first: &Option<Out>)
     requires steps { log.old.steps + 1 < 2 ^ 64 }
     ensures { Logs log.old log.new (noted_by packet.now first.now) }
 {
-    let moment = log.steps() + 1;
-    log.set_steps(moment);
+    count_step(log);
     note_numbered(packet, first, log);
     note_emitted(first, log);
 }

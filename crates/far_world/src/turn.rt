@@ -108,14 +108,24 @@ fn send_all(bag: &mut Bag, from: Party, outs: &[Out])
     }
 }
 
+/// Counts one more step.
+pub(crate) fn count_step(log: &mut Log)
+    requires { log.old.steps + 1 < 2 ^ 64 }
+    ensures moment { Logs log.old log.new [] }
+    ensures room { log.new.room ≡ log.old.room }
+{
+    let moment = log.steps() + 1;
+    log.set_steps(moment);
+}
+
 /// Counts one more step, and logs what happened in it.
 fn note_all(log: &mut Log, notes: &[LogEntry])
     requires room { length notes.now ≤ log.old.room }
     requires steps { log.old.steps + 1 < 2 ^ 64 }
     ensures { Logs log.old log.new notes.now }
 {
-    let moment = log.steps() + 1;
-    log.set_steps(moment);
+    count_step(log);
+    let moment = log.steps();
     for entry in notes {
         log.note(moment, entry);
     }
