@@ -1,5 +1,5 @@
 -- Where a key is bound, and what unbinding it does to the list.
-use Rattle.std.proofs.Common.{◌≡◌, ◌≢◌, ℕ, zero, suc, true, false, ◌⊎◌, List, [], ◌∷◌, map, set, sym, refl, ap, ap₂, ◌∙◌, inl, inr, arith, Option, None, Some}
+use Rattle.std.proofs.Common.{◌≡◌, ◌≢◌, ℕ, zero, suc, true, false, ◌⊎◌, List, [], ◌∷◌, map, set, sym, subst, refl, ap, ap₂, ◌∙◌, inl, inr, arith, Option, None, Some}
 use Rattle.std.specs.Prelude.{if◌then◌else◌}
 use Rattle.std.proofs.lemmas.Bool.Decides.{eqb_tells}
 use Rattle.far_model.specs.Log.{same_key}
@@ -41,6 +41,12 @@ not_there key o n = elim (there_tells key o) [ inl e ↦ absurd (n e.1) | inr e 
 -- the key stands at place i alone
 abbrev pub OnlyAt : List ℕ → ℕ → List (Option (List ℕ)) → Type 0
 OnlyAt key i bound = (j : ℕ) → key_at bound j ≡ Some key → j ≡ i
+
+-- a key that could stand there alone, and does not, stands nowhere
+pub only_missing : (key : List ℕ) (bound : List (Option (List ℕ))) (i : ℕ) → OnlyAt key i bound → is_key_there key (key_at bound i) ≡ false → Nowhere key bound
+only_missing key bound i o missing j e =
+    let there : is_key_there key (key_at bound i) ≡ true = is_there key (key_at bound i) (subst (λ n. key_at bound n ≡ Some key) (o j e) e) in
+    absurd cc
 
 pub place_none : (key : List ℕ) (bound : List (Option (List ℕ))) → Nowhere key bound → bound_place key bound ≡ None
 place_none key [] n = refl

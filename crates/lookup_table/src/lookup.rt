@@ -1,7 +1,7 @@
 use crate::cells::{
-    cell_with, cells_of, count_buckets, free_cell, slot_of_bucket, slot_with, take_out,
+    cell_with, cells_of, count_buckets, free_cell, is_key_at, slot_of_bucket, slot_with, take_out,
 };
-use crate::mark::{MARKS, mark_of};
+use crate::mark::{MARKS, Mark, mark_of};
 use crate::place::{BUCKET_CELLS, Place};
 use far_base::{Key, Memory};
 use std::alloc::{AllocError, Global};
@@ -15,9 +15,9 @@ pub struct Lookup {
     keys: Vec<Option<Key>>,
     cells: Vec<Option<u32>>,
     overflow: Vec<u32>,
-    /// Under each key's mark the slot to which a key of that mark was bound last: so most keys that are not bound are
-    /// told at once, and most that are bound found at once.
-    marks: Vec<Option<u32>>,
+    /// Where the keys of each mark are bound: so most keys that are not bound are told at once, and most that are bound
+    /// found at once.
+    marks: Vec<Mark>,
 }
 
 impl Model for Lookup {
@@ -71,7 +71,7 @@ impl Lookup {
         let keys = filled(alloc, None, slots as usize)?;
         let cells = filled(alloc, None, BUCKET_CELLS * count_buckets(slots as usize))?;
         let overflow = Vec::with_capacity(alloc, slots as usize)?;
-        let marks = filled(alloc, None, MARKS)?;
+        let marks = filled(alloc, Mark::Free, MARKS)?;
         Ok(Lookup {
             keys,
             cells,
@@ -90,14 +90,14 @@ impl Lookup {
         key.byte_sum() as usize % count_buckets(self.keys.len())
     }
 
-    /// Where the pair with the key stands. A key without a mark has none.
+    /// Where the pair with the key stands. A key whose mark is free has none.
     fn locate(&self, key: &Key) -> Option<Place>
         ensures { result ≡ place_of key.now self.now }
     {
         if self.keys.is_empty() {
             return None;
         }
-        if self.marks[mark_of(key)].is_none() {
+        if let Mark::Free = self.marks[mark_of(key)] {
             return None;
         }
         let bucket = self.bucket(key);
@@ -127,18 +127,6 @@ impl Lookup {
         self.locate(key)
     }
 
-    /// The slot under the key's mark, where it is bound to the key.
-    fn marked(&self, key: &Key) -> Option<u32>
-        ensures slot { IfSome result (λ slot. Some slot ≡ bound_place key.now self.now.bound) }
-        ensures there { IfSome result (λ slot. slot < length self.now.bound) }
-    {
-        let slot = self.marks[mark_of(key)]?;
-        match self.keys.get(slot as usize) {
-            Some(Some(found)) if found == key => Some(slot),
-            _ => None,
-        }
-    }
-
     /// The slot at the place of the pair with the key.
     fn placed(&self, key: &Key) -> Option<u32>
         ensures slot { result ≡ bound_place key.now self.now.bound }
@@ -153,14 +141,28 @@ impl Lookup {
         }
     }
 
+    /// The slot, where it has the key, which is bound to no other.
+    fn sought_at(&self, slot: u32, key: &Key) -> Option<u32>
+        requires { IsAlone key.now slot self.now.bound }
+        ensures slot { result ≡ bound_place key.now self.now.bound }
+        ensures there { IfSome result (λ slot. slot < length self.now.bound) }
+    {
+        if is_key_at(&self.keys, slot, key) {
+            Some(slot)
+        } else {
+            None
+        }
+    }
+
     /// The slot that is bound to the key. `None` exactly where none is.
     pub fn find(&self, key: &Key) -> Option<u32>
         ensures slot { result ≡ bound_place key.now self.now.bound }
         ensures there { IfSome result (λ slot. slot < length self.now.bound) }
     {
-        match self.marked(key) {
-            Some(slot) => Some(slot),
-            None => self.placed(key),
+        match self.marks[mark_of(key)] {
+            Mark::Free => None,
+            Mark::One(slot) => self.sought_at(slot, key),
+            Mark::Several => self.placed(key),
         }
     }
 
@@ -186,8 +188,20 @@ impl Lookup {
         self.keys[slot as usize] = None;
     }
 
-    /// Drops the pair with the key, if there is one.
-    fn unbind(&mut self, key: &Key)
+    /// Frees the key's mark where its one slot has no key.
+    fn unmark(&mut self, key: &Key)
+        ensures { self.new ≡ self.old }
+    {
+        let at = mark_of(key);
+        if let Mark::One(slot) = self.marks[at] {
+            if self.key_of(slot).is_none() {
+                self.marks[at] = Mark::Free;
+            }
+        }
+    }
+
+    /// Drops the pair with the key, if there is one. The key's mark stays.
+    fn drop_pair(&mut self, key: &Key)
         ensures value { self.new ≡ without_key key.now self.old }
         ensures bound { self.new.bound ≡ map (unbound key.now) self.old.bound }
         ensures gone { Nowhere key.now self.new.bound }
@@ -197,6 +211,16 @@ impl Lookup {
             Some(Place::Overflow { at }) => self.vacate_overflow(at),
             None => {}
         }
+    }
+
+    /// Drops the pair with the key, if there is one.
+    fn unbind(&mut self, key: &Key)
+        ensures value { self.new ≡ without_key key.now self.old }
+        ensures bound { self.new.bound ≡ map (unbound key.now) self.old.bound }
+        ensures gone { Nowhere key.now self.new.bound }
+    {
+        self.drop_pair(key);
+        self.unmark(key);
     }
 
     /// Drops the pair with the slot, if there is one.
@@ -218,7 +242,8 @@ impl Lookup {
         ensures bound { self.new.bound ≡ slice_set self.old.bound slot (Some key) }
     {
         let bucket = self.bucket(&key);
-        self.marks[mark_of(&key)] = Some(slot);
+        let at = mark_of(&key);
+        self.marks[at] = self.marks[at].with(slot);
         self.keys[slot as usize] = Some(key);
         match free_cell(cells_of(&self.cells, bucket)) {
             Some(cell) => self.cells[BUCKET_CELLS * bucket + cell] = Some(slot),
@@ -253,7 +278,7 @@ impl Lookup {
     {
         fill(&mut self.keys, None);
         fill(&mut self.cells, None);
-        fill(&mut self.marks, None);
+        fill(&mut self.marks, Mark::Free);
         self.overflow.clear();
     }
 }

@@ -1,4 +1,5 @@
 use super::*;
+use crate::mark::mark_of;
 use far_base::Key;
 use std::test::Fail;
 
@@ -40,5 +41,27 @@ fn a_freed_cell_takes_an_overflow_pair(rt: HostRuntime) -> Result<(), Fail> {
         table.place(&key_of(b"a")?),
         Some(Place::Cell { bucket: 1, cell: 0 })
     );
+    Ok(())
+}
+
+#[test]
+fn keys_of_one_mark_are_told_apart(rt: HostRuntime) -> Result<(), Fail> {
+    let one = key_of(b"0")?;
+    let other = key_of(b"p1")?;
+    assert_eq!(rt; mark_of(&one), mark_of(&other));
+    let mut table = Lookup::new(rt.alloc(), 4).map_err(|_| "memory")?;
+    table.bind(one, 0);
+    assert_eq!(rt; table.find(&one), Some(0));
+    assert_eq!(rt; table.find(&other), None);
+    table.bind(other, 1);
+    assert_eq!(rt; table.find(&one), Some(0));
+    assert_eq!(rt; table.find(&other), Some(1));
+    table.bind(key_of(b"a")?, 0);
+    assert_eq!(rt; table.find(&one), None);
+    assert_eq!(rt; table.find(&other), Some(1));
+    table.clear();
+    table.bind(one, 3);
+    assert_eq!(rt; table.find(&one), Some(3));
+    assert_eq!(rt; table.find(&other), None);
     Ok(())
 }

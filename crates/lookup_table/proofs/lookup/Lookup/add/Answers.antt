@@ -3,11 +3,11 @@ use Rattle.std.specs.Prelude.{is_none}
 use Rattle.std.specs.List.{position}
 use Rattle.std.proofs.lemmas.Grind.{common_steps}
 use Rattle.std.proofs.lemmas.List.{length-set}
-use Rattle.lookup_table.specs.Marks.{AreMarked}
+use Rattle.lookup_table.specs.Marks.{mark_at, marked_with}
 use Rattle.lookup_table.specs.Sound.{IsSound, Nowhere}
 use Rattle.lookup_table.specs.Table.{LookupView, bucket_in, bucket_cells, key_at}
 use Rattle.lookup_table.proofs.Adds.{IsNew, cell_added, overflow_added, room_left}
-use Rattle.lookup_table.proofs.Marks.{more_marked}
+use Rattle.lookup_table.proofs.Marks.{more_marked_at}
 use Rattle.lookup_table.proofs.lookup.Lookup.add.Goals as goal
 
 pub invariant_of-self : goal.invariant_of-self
@@ -19,11 +19,14 @@ invariant_of-self c =
       free = subst (λ (v : LookupView). key_at v.bound c.args.slot ≡ None) (sym c.self.view_is) c.requires.unbound;
       new = subst (λ (v : LookupView). Nowhere c.args.key v.bound) (sym c.self.view_is) c.requires.new;
     } in
+    let mark : c.with.result ≡ marked_with c.args.slot (mark_at c.self.inside.marks.items c.args.key) = first_of (search rules, grind (arith, common_steps)) in
+    let inside = subst (λ n. n < 8192) c.mark_of-at.ensures.mark c.mark_of-at.ensures.bound in
+    let marked = more_marked_at c.self.inside.keys.items c.self.inside.marks.items c.args.slot c.args.key c.mark_of-at.result c.with.result n.within inside c.self.invariant.1.1 c.mark_of-at.ensures.mark mark in
     let home : c.bucket-bucket.result ≡ bucket_in (length c.self.inside.keys.items) c.args.key = subst (λ (v : LookupView). c.bucket-bucket.result ≡ bucket_in (length v.bound) c.args.key) (sym c.self.view_is) c.bucket-bucket.ensures.bucket in
     let there : 4 * c.bucket-bucket.result + 4 ≤ length c.self.inside.cells.items = subst (λ (v : LookupView). 4 * c.bucket-bucket.result + 4 ≤ length v.cells) (sym c.self.view_is) c.bucket-bucket.ensures.there in
     let l = length-set c.self.inside.keys.items c.args.slot (Some c.args.key) in
     let free : position is_none (bucket_cells c.bucket-bucket.result c.self.inside.cells.items) ≡ Some c.in-Some.cell = first_of (search rules, grind (arith, common_steps)) in
-    (cell_added t c.args.key c.args.slot c.bucket-bucket.result c.in-Some.cell n home there free, (omega (arith, l, c.self.invariant.1.0), subst (λ n. AreMarked (set c.self.inside.keys.items c.args.slot (Some c.args.key)) (set c.self.inside.marks.items n (Some c.args.slot))) (sym c.mark_of.ensures.mark) (more_marked c.self.inside.keys.items c.self.inside.marks.items c.args.slot c.args.key (subst (λ n. n < 8192) c.mark_of.ensures.mark c.mark_of.ensures.bound) c.self.invariant.1.1)))
+    (cell_added t c.args.key c.args.slot c.bucket-bucket.result c.in-Some.cell n home there free, (omega (arith, l, c.self.invariant.1.0), marked))
 
 pub push_reserved-requires : goal.push_reserved-requires
 push_reserved-requires c =
@@ -46,10 +49,13 @@ invariant_of-self-in-None c =
       free = subst (λ (v : LookupView). key_at v.bound c.args.slot ≡ None) (sym c.self.view_is) c.requires.unbound;
       new = subst (λ (v : LookupView). Nowhere c.args.key v.bound) (sym c.self.view_is) c.requires.new;
     } in
+    let mark : c.with.result ≡ marked_with c.args.slot (mark_at c.self.inside.marks.items c.args.key) = first_of (search rules, grind (arith, common_steps)) in
+    let inside = subst (λ n. n < 8192) c.mark_of-at.ensures.mark c.mark_of-at.ensures.bound in
+    let marked = more_marked_at c.self.inside.keys.items c.self.inside.marks.items c.args.slot c.args.key c.mark_of-at.result c.with.result n.within inside c.self.invariant.1.1 c.mark_of-at.ensures.mark mark in
     let home : c.bucket-bucket.result ≡ bucket_in (length c.self.inside.keys.items) c.args.key = subst (λ (v : LookupView). c.bucket-bucket.result ≡ bucket_in (length v.bound) c.args.key) (sym c.self.view_is) c.bucket-bucket.ensures.bucket in
     let there : 4 * c.bucket-bucket.result + 4 ≤ length c.self.inside.cells.items = subst (λ (v : LookupView). 4 * c.bucket-bucket.result + 4 ≤ length v.cells) (sym c.self.view_is) c.bucket-bucket.ensures.there in
     let l = length-set c.self.inside.keys.items c.args.slot (Some c.args.key) in
     let full : position is_none (bucket_cells c.bucket-bucket.result c.self.inside.cells.items) ≡ None = first_of (search rules, grind (arith, common_steps)) in (
       subst (λ (xs : List ℕ). IsSound (record { bound = set c.self.inside.keys.items c.args.slot (Some c.args.key); cells = c.self.inside.cells.items; overflow = xs })) (sym c.push_reserved.ensures.items) (overflow_added t c.args.key c.args.slot c.bucket-bucket.result n home there full),
-      (omega (arith, l, c.push_reserved.ensures.capacity, c.self.invariant.1.0), subst (λ n. AreMarked (set c.self.inside.keys.items c.args.slot (Some c.args.key)) (set c.self.inside.marks.items n (Some c.args.slot))) (sym c.mark_of.ensures.mark) (more_marked c.self.inside.keys.items c.self.inside.marks.items c.args.slot c.args.key (subst (λ n. n < 8192) c.mark_of.ensures.mark c.mark_of.ensures.bound) c.self.invariant.1.1)),
+      (omega (arith, l, c.push_reserved.ensures.capacity, c.self.invariant.1.0), marked),
     )

@@ -1,5 +1,6 @@
 use Rattle.std.proofs.Common.{◌*◌, ◌∙◌, length, replicate, None, Option, List, ℕ, sym, subst, ap, arith}
 use Rattle.std.proofs.lemmas.List.{length-replicate}
+use Rattle.lookup_table.specs.declared.mark.Mark.{Mark}
 use Rattle.lookup_table.specs.Marks.{AreMarked}
 use Rattle.lookup_table.proofs.Empty.{empty_sound}
 use Rattle.lookup_table.proofs.Marks.{none_marked}
@@ -16,5 +17,5 @@ invariant_of-result c =
     let sound = empty_sound c.args.slots c.in_ok-keys.keys.items c.in_ok-cells.cells.items c.in_ok-overflow.overflow.items c.ranges.slots.fits keys cells c.in_ok-overflow.ensures.items in
     let marked =
     subst (λ (bound : List (Option (List ℕ))). AreMarked bound c.in_ok-marks.marks.items) (sym keys)
-    (subst (λ (marks : List (Option ℕ)). AreMarked (replicate c.args.slots None) marks) (sym c.in_ok-marks.ensures) (none_marked c.args.slots)) in
+    (subst (λ (marks : List Mark). AreMarked (replicate c.args.slots None) marks) (sym c.in_ok-marks.ensures) (none_marked c.args.slots)) in
     (sound, (omega (arith, wide, room), marked))

@@ -4,7 +4,7 @@ use Rattle.lookup_table.specs.Sound.{IsPairAt, Nowhere}
 use Rattle.lookup_table.specs.Table.{LookupView}
 use Rattle.lookup_table.proofs.Bound.{unbound_none}
 use Rattle.lookup_table.proofs.Places.{drops}
-use Rattle.lookup_table.proofs.lookup.Lookup.unbind.Goals as goal
+use Rattle.lookup_table.proofs.lookup.Lookup.drop_pair.Goals as goal
 
 pub returns-in-Some-Cell-clause-bound : goal.returns-in-Some-Cell-clause-bound
 returns-in-Some-Cell-clause-bound c =
