@@ -21,6 +21,9 @@ pub record IsNew (t : LookupView) (k : List ℕ) (s : ℕ) : Type 0 where
   pub free : key_at t.bound s ≡ None
   pub new : Nowhere k t.bound
 
+pub is_new : (t v : LookupView) (k : List ℕ) (s : ℕ) → t ≡ v → IsSound t → s < length v.bound → key_at v.bound s ≡ None → Nowhere k v.bound → IsNew t k s
+is_new t v k s e sound within free new = subst (λ (x : LookupView). IsNew x k s) (sym e) (record { sound = subst IsSound e sound; within = within; free = free; new = new })
+
 -- a slot without a key stands nowhere
 absent : (t : LookupView) (x : ℕ) → IsSound t → key_at t.bound x ≡ None → copies x t ≡ 0
 absent t x h e = h.once x ∙ ap times e

@@ -88,10 +88,11 @@ more_marked bound marks s new b l m = record {
     within : mark_of new < length marks
     within = let n = m.count in omega (arith, l, n)
 
-pub more_marked_at : (bound : List (Option (List ℕ))) (marks : List Mark) (s : ℕ) (new : List ℕ) (at : ℕ) (mark : Mark) → s < length bound → mark_of new < 8192 → AreMarked bound marks
+pub more_marked_at : (bound : List (Option (List ℕ))) (marks : List Mark) (s : ℕ) (new : List ℕ) (at : ℕ) (mark : Mark) → s < length bound → at < 8192 → AreMarked bound marks
     → at ≡ mark_of new → mark ≡ marked_with s (mark_at marks new) → AreMarked (set bound s (Some new)) (set marks at mark)
 more_marked_at bound marks s new at mark b l m is so =
-    subst (λ n. AreMarked (set bound s (Some new)) (set marks n mark)) (sym is) (subst (λ k. AreMarked (set bound s (Some new)) (set marks (mark_of new) k)) (sym so) (more_marked bound marks s new b l m))
+    subst (λ n. AreMarked (set bound s (Some new)) (set marks n mark)) (sym is) (
+    subst (λ k. AreMarked (set bound s (Some new)) (set marks (mark_of new) k)) (sym so) (more_marked bound marks s new b (subst (λ n. n < 8192) is l) m))
 
 -- a mark whose one slot has no key is free
 pub freed_marked : (bound : List (Option (List ℕ))) (marks : List Mark) (key : List ℕ) (only : ℕ) → mark_of key < 8192 → mark_at marks key ≡ One only → key_at bound only ≡ None
