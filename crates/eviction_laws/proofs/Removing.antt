@@ -141,6 +141,7 @@ module _ (plan : PlanView) {c : Content} (s : State) (need : Needs plan c s) (v 
           gone = λ x. absurd cc;
           there = λ x. remove_is.there;
           written = λ x. v.lasts s (after (kept_answer ∷ [])) (onward_after (kept_answer ∷ [])) e.key slot.num (shown_body slot) (body_shown (stays_latest tag latest num slot is_own off));
+          shown = λ l. v.lasts s (after (kept_answer ∷ [])) (onward_after (kept_answer ∷ [])) e.key slot.num (shown_body slot) (body_shown l);
         }
 
         packets : (m : Message) → Among m (kept_answer ∷ []) → EvictionPacketIs plan c (after (kept_answer ∷ [])) m.packet
@@ -167,6 +168,7 @@ module _ (plan : PlanView) {c : Content} (s : State) (need : Needs plan c s) (v 
               gone = λ x. ap (λ j. (slot_at w j).valid) remove_is.awaits.slot_is ∙ ap (λ (y : SlotView). y.valid) g.sets.here;
               there = λ x. absurd cc;
               written = λ x. absurd cc;
+              shown = λ l. v.lasts s (emptied w more) (record { still = member s (emptied w more) [] refl; past = omega arith; more = λ key. omega arith }) e.key slot.num (shown_body slot) (body_shown l);
             } in
             subst (λ (x : Message). EvictionPacketIs plan c (emptied w more) x.packet) (sym q) new
         packets m (inr a) = eviction_any plan c (emptied w more) m.packet (g.plain m a).1

@@ -28,6 +28,22 @@ pub record IsAbsorbed (plan : PlanView) (log : List LogLine) (key : List ℕ) (n
   pub numbered : Among (line_at numbered_at (Numbered op num)) log
   pub absorbed : IsAnsweredNear log op num
 
+-- some answer to the write left the switch as its own, whatever its number
+pub record IsMarkedNear (log : List LogLine) (op : ℕ) : Type 0 where
+  pub emitted_at : ℕ
+  pub num : ℕ
+  pub body : Option (List ℕ)
+  pub emitted : Among (line_at emitted_at (Emitted op num body true)) log
+
+-- a write on the key, of the plan, has this number, and some answer to it left the switch as its own: in every run this
+-- says no more than `IsAbsorbed`
+pub record IsWriteMarkedNear (plan : PlanView) (log : List LogLine) (key : List ℕ) (num : ℕ) : Type 0 where
+  pub op : ℕ
+  pub on_key : (line_of plan.ops op).key ≡ key
+  pub numbered_at : ℕ
+  pub numbered : Among (line_at numbered_at (Numbered op num)) log
+  pub marked : IsMarkedNear log op
+
 -- ---- places that cover a number of a key: they hold a record of the key with at least that number
 
 -- what the server of a key has for it

@@ -19,7 +19,7 @@ use Rattle.far_model.specs.Members.{Among, Each}
 use Rattle.far_model.specs.Rounds.{Round}
 use Rattle.far_model.specs.Snapshots.{Job}
 use Rattle.far_model.specs.State.{State, client_at, records_at}
-use Rattle.far_model.specs.View.{slot_at}
+use Rattle.far_model.specs.View.{Mark, SwitchView, shown_at, slot_at}
 
 abbrev pub is_numbering : LogEntry → Bool
 is_numbering (Numbered op num) = true
@@ -77,6 +77,14 @@ abbrev pub begun_number : Option ℕ → ℕ
 begun_number None = 0
 begun_number (Some point) = point
 
+abbrev pub mark_number : Option Mark → ℕ
+mark_number None = 0
+mark_number (Some m) = m.num
+
+-- the marks of what slots showed
+abbrev pub MarksWithin : ℕ → SwitchView → Type 0
+MarksWithin n v = (i : ℕ) → mark_number (shown_at v i) ≤ n
+
 abbrev pub EvictionWithin : ℕ → Option Eviction → Type 0
 EvictionWithin n None = Unit {0}
 EvictionWithin n (Some e) = e.item.num ≤ n
@@ -105,6 +113,7 @@ pub record NumbersWithin (n ceiling : ℕ) (s : State) : Type 0 where
   pub counter : s.switch.counter ≤ n
   pub ceiling_too : ceiling ≤ n
   pub slots : (i : ℕ) → (slot_at s.switch i).num ≤ n
+  pub marks : MarksWithin n s.switch
   pub packets : (m : Message) → Among m s.bag → number_in m.packet ≤ n
   pub clients : (c : ℕ) → ClientWithin n (client_at s c)
   pub servers : (n' : ℕ) → RecordsWithin n (records_at s n')

@@ -3,7 +3,8 @@
 -- what servers and slots have.
 use Rattle.far_invariants.specs.Numbers.{ExposedAtMostBy, ExposedAtMost, entry, reach, IsWritten, WouldBeCurrent}
 use Rattle.far_invariants.specs.Covers.{look}
-use Rattle.std.specs.Prelude.{◌≡◌, ◌≢◌, ℕ, ◌<◌, ◌≤◌, ◌⊎◌, Bool, true, false, List, length, Option, Some}
+use Rattle.std.specs.Prelude.{◌≡◌, ◌≢◌, ℕ, ◌<◌, ◌≤◌, ◌⊎◌, true, false, List, length, Option, Some}
+use Rattle.std.specs.Bool.{MatchBool}
 use Rattle.far_base.specs.PlanView.{PlanView}
 use Rattle.far_base.specs.declared.log.LogEntry.{LogEntry}
 use Rattle.far_base.specs.declared.log.LogEntry.TheVariants.{Sent, Numbered, Emitted, Answered}
@@ -14,7 +15,7 @@ use Rattle.far_base.specs.declared.packet.Packet.TheVariants.{GetReq, WriteReq, 
 use Rattle.far_base.specs.declared.packet.Packet.TheVariants.{GetAns, WriteAns, Admit}
 use Rattle.far_model.specs.Clients.{line_of}
 use Rattle.far_model.specs.Coherent.{Earlier, IsAnswering, IsOwnNumber, ReachesOwnNumber}
-use Rattle.far_model.specs.Log.{is_read}
+use Rattle.far_model.specs.Log.{Answer, is_read}
 use Rattle.far_model.specs.Members.{Among, Pairs}
 use Rattle.far_model.specs.State.{State, client_at, line_at}
 use Rattle.far_model.specs.View.{SlotView}
@@ -54,23 +55,24 @@ pub record NumberStands (plan : PlanView) (s : State) (moment op num : ℕ) : Ty
   pub above : 0 < num
   pub counted : s.running ≡ true → num ≤ s.switch.counter
 
-pub record AnswerStands (plan : PlanView) (s : State) (moment op num : ℕ) (body : Option (List ℕ))
-    (near : Bool) : Type 0 where
+pub record AnswerStands (plan : PlanView) (s : State) (moment op : ℕ) (a : Answer) : Type 0 where
   pub sent : IsSent plan s.log moment op
   pub key : List ℕ
   pub on_key : (line_of plan.ops op).key ≡ key
   pub written : Option (List ℕ)
-  pub source : IsWritten plan s.log moment key num written
-  pub same : is_read (line_of plan.ops op).op ≡ true → body ≡ written
-  pub floor : is_read (line_of plan.ops op).op ≡ true → ExposedAtMostBy plan s.log key sent.sent_at num
-  pub own : is_read (line_of plan.ops op).op ≡ false → ReachesOwnNumber s.log moment op num
-  pub stored : is_read (line_of plan.ops op).op ≡ false → ((near ≡ true) × IsOwnNumber s.log moment op num)
-      ⊎ (num ≤ (look plan s key).num)
+  pub source : IsWritten plan s.log moment key a.num written
+  pub same : is_read (line_of plan.ops op).op ≡ true → a.body ≡ written
+  pub floor : is_read (line_of plan.ops op).op ≡ true → ExposedAtMostBy plan s.log key sent.sent_at a.num
+  pub own : is_read (line_of plan.ops op).op ≡ false → ReachesOwnNumber s.log moment op a.num
+  -- the switch answers a write by itself with its own number, and else its server has the number
+  pub stored : is_read (line_of plan.ops op).op ≡ false → MatchBool a.near (IsOwnNumber s.log moment op a.num)
+      (a.num ≤ (look plan s key).num)
 
 abbrev pub LineStands : PlanView → State → ℕ → LogEntry → Type 0
 LineStands plan s moment (Sent op line) = line ≡ line_of plan.ops op
 LineStands plan s moment (Numbered op num) = NumberStands plan s moment op num
-LineStands plan s moment (Emitted op num body near) = AnswerStands plan s moment op num body near
+LineStands plan s moment (Emitted op num body near) =
+    AnswerStands plan s moment op (record { num = num; body = body; near = near })
 LineStands plan s moment (Answered op) = IsAnswering s.log moment op
 LineStands plan s moment _ = Unit {0}
 

@@ -1,5 +1,6 @@
 -- What proofs remember of the past of a run. None of it is part of the state, and nothing that runs knows it.
-use Rattle.std.specs.Prelude.{ℕ, nat_eq, if◌then◌else◌, List, [], ◌∷◌, ◌++◌, map, slice_get, Option, None, Some}
+use Rattle.std.specs.Prelude.{ℕ, Bool, true, false, nat_eq, if◌then◌else◌, List, [], ◌∷◌, ◌++◌, map, slice_get, Option}
+use Rattle.std.specs.Prelude.{None, Some}
 use Rattle.far_base.specs.PlanView.{PlanView}
 use Rattle.far_base.specs.declared.event.Event.{Event}
 use Rattle.far_base.specs.declared.event.Event.TheVariants.{Deliver, Tick, Recover}
@@ -18,11 +19,13 @@ use Rattle.far_model.specs.Parties.{Turn}
 use Rattle.far_model.specs.State.{State, opening}
 use Rattle.far_model.specs.View.{SwitchView, held_record}
 
--- what each slot held, and the counter, when the switch took the start of a snapshot
+-- what each slot held, and the counter, when the switch took the start of a snapshot, and whether it was a start by
+-- difference: its parts may refer to the last completed snapshot
 pub record SnapshotStart : Type 0 where
   pub id : ℕ
   pub views : List (Option Record)
   pub counter : ℕ
+  pub by_difference : Bool
 
 -- for which key, slot and epoch a tag was drawn
 pub record DrawnTag : Type 0 where
@@ -39,13 +42,18 @@ pub record Past : Type 0 where
 abbrev pub no_past : Past
 no_past = record { starts = []; drawn = []; recoveries = [] }
 
-abbrev pub start_of : SwitchView → ℕ → SnapshotStart
-start_of v id = record { id = id; views = map held_record v.slots; counter = v.counter }
+abbrev pub start_of : SwitchView → ℕ → Bool → SnapshotStart
+start_of v id by_difference = record {
+  id = id;
+  views = map held_record v.slots;
+  counter = v.counter;
+  by_difference = by_difference;
+}
 
 -- the start that a delivery makes: of a start of a snapshot in the switch's epoch, by difference or not
 abbrev pub starts_by : SwitchView → Party → Packet → List SnapshotStart
-starts_by v Switch (SnapStart epoch id) = if nat_eq epoch v.epoch then start_of v id ∷ [] else []
-starts_by v Switch (SnapFrom epoch id base) = if nat_eq epoch v.epoch then start_of v id ∷ [] else []
+starts_by v Switch (SnapStart epoch id) = if nat_eq epoch v.epoch then start_of v id false ∷ [] else []
+starts_by v Switch (SnapFrom epoch id base) = if nat_eq epoch v.epoch then start_of v id true ∷ [] else []
 starts_by v _ packet = []
 
 abbrev pub starts_with : SwitchView → Option Message → List SnapshotStart

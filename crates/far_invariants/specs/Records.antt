@@ -1,6 +1,6 @@
 -- Records everywhere: whatever is shown, stored, on its way or preserved is that of a write, or number 0 with no body.
 use Rattle.far_invariants.specs.Numbers.{IsWritten}
-use Rattle.std.specs.Prelude.{◌≡◌, ℕ, true, false, List, Option, None, Some}
+use Rattle.std.specs.Prelude.{◌≡◌, ◌⊎◌, ℕ, true, false, List, Option, None, Some}
 use Rattle.far_base.specs.PlanView.{PlanView}
 use Rattle.far_base.specs.declared.packet.Message.{Message}
 use Rattle.far_base.specs.declared.packet.Packet.{Packet}
@@ -50,7 +50,7 @@ PacketIsWritten plan s (WriteAns caller op key num kept) = kept ≡ true
 PacketIsWritten plan s (PeekAns i tag latest num body) = (e : Eviction) → s.controller.eviction ≡ Some e → latest ≡ true
     → IsRecord plan s (shown_item e num body)
 PacketIsWritten plan s (RemoveAns i tag done latest num body) = (e : Eviction) → s.controller.eviction ≡ Some e
-    → done ≡ false → IsRecord plan s (shown_item e num body)
+    → (done ≡ false) ⊎ (latest ≡ true) → IsRecord plan s (shown_item e num body)
 PacketIsWritten plan s (SnapPart id i view) = ViewIsRecord plan s view
 PacketIsWritten plan s (Store job item) = IsRecord plan s item
 PacketIsWritten plan s (Told round caller total item) = ViewIsRecord plan s item

@@ -43,13 +43,19 @@ stores_of_run plan events = stores_after plan (opening plan) [] events
 
 -- ---- what is said of them
 
+-- a store of this job was on its way, and the server of each such store's key has at least its number
+pub record WasStored (plan : PlanView) (stores : List GivenStore) (s : State) (job : ℕ) : Type 0 where
+  pub item : Record
+  pub there : Among (given job item) stores
+  pub covered : (g : GivenStore) → Among g stores → g.job ≡ job → g.item.num ≤ (look plan s g.item.key).num
+
 -- a removal of a latest slot: the server has at least the number that it removes, of the key for which the slot's tag
--- was drawn. A server's word that a job is done: it has at least the number of that job's record
+-- was drawn. A server's word that a job is done: there was a store of that job, and the server has at least the number
+-- of its record
 abbrev pub IsStoredBefore : PlanView → List DrawnTag → List GivenStore → State → Packet → Type 0
 IsStoredBefore plan drawn stores s (Remove epoch i tag latest num) = latest ≡ true → (d : DrawnTag) → Among d drawn
     → d.tag ≡ tag → num ≤ (look plan s d.key).num
-IsStoredBefore plan drawn stores s (Stored job) = (g : GivenStore) → Among g stores → g.job ≡ job
-    → g.item.num ≤ (look plan s g.item.key).num
+IsStoredBefore plan drawn stores s (Stored job) = WasStored plan stores s job
 IsStoredBefore plan drawn stores s _ = Unit {0}
 
 -- by the tags that were drawn and the stores that were on their way in the run; a job has one record

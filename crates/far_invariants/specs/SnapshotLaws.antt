@@ -48,14 +48,23 @@ pub record PartsAreStarts (plan : PlanView) (s : State) (starts : List SnapshotS
       → m.packet ≡ SnapSame j.id i → IsStartOf starts j.id start
       → view_at s.controller.last.views i ≡ view_at start.views i
 
--- while the switch runs and the last completed snapshot is of the present epoch
+-- the switch gathers by difference from the last completed snapshot: that is of the present epoch, and each slot whose
+-- part was not taken has the mark of its part in it
+pub record IsBaseOf (plan : PlanView) (s : State) : Type 0 where
+  pub some : 0 < s.switch.base
+  pub last : s.switch.base ≡ s.controller.last.id
+  pub present : s.controller.last_epoch ≡ s.controller.epoch
+  pub untaken : (i : ℕ) → i < plan.config.slots → is_taken s.switch i ≡ false → taken_at s.switch i ≡ s.switch.base
+
+-- marks are those of the last completed snapshot. While the switch runs, a job whose start by difference has passed has
+-- that snapshot for its base, and one whose start was of the other kind has none
 pub record MarksMatch (plan : PlanView) (s : State) (starts : List SnapshotStart) : Type 0 where
   pub marks : 0 < s.controller.last.id → (i : ℕ) → taken_at s.switch i ≡ s.controller.last.id
       → shown_at s.switch i ≡ mark_of (view_at s.controller.last.views i)
   pub base : s.running ≡ true → (j : Job) (start : SnapshotStart) → s.controller.job ≡ Some j
-      → IsStartOf starts j.id start → 0 < s.switch.base
-      → (s.switch.base ≡ s.controller.last.id) × (s.controller.last_epoch ≡ s.controller.epoch)
-      × ((i : ℕ) → i < plan.config.slots → is_taken s.switch i ≡ false → taken_at s.switch i ≡ s.switch.base)
+      → IsStartOf starts j.id start → start.by_difference ≡ true → IsBaseOf plan s
+  pub no_base : s.running ≡ true → (j : Job) (start : SnapshotStart) → s.controller.job ≡ Some j
+      → IsStartOf starts j.id start → start.by_difference ≡ false → s.switch.base ≡ 0
   pub settled : s.running ≡ true → 0 < s.controller.last.id → s.controller.last_epoch ≡ s.controller.epoch
       → IsSettled (gathering s.controller) starts → (i : ℕ) → i < plan.config.slots
       → taken_at s.switch i ≡ s.controller.last.id

@@ -1,2 +1,4 @@
 pub mod Members
+pub mod Rows
 pub mod Runs
+pub mod Steps

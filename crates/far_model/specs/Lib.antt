@@ -9,7 +9,7 @@ pub mod Evictions
 pub mod History
 pub mod Kept
 pub mod KeyedRecords
-pub mod Lines
+pub mod Linearizable
 pub mod Log
 pub mod Members
 pub mod Parties
@@ -22,5 +22,6 @@ pub mod Servers
 pub mod SnapshotAt
 pub mod Snapshots
 pub mod State
+pub mod Steps
 pub mod View
 pub mod Work

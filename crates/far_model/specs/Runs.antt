@@ -55,6 +55,12 @@ IsPickedFrom plan pick n s [] = IsTrue (is_quiet plan s)
 IsPickedFrom plan pick n s (e ∷ es) = (is_quiet plan s ≡ false) × (e ≡ next_event plan s (pick n))
     × IsPickedFrom plan pick (picks_after plan s n) (happens plan s e) es
 
+-- each event is the one that the picks from number n on choose in its turn, whatever can happen behind them
+abbrev pub ArePicked : PlanView → (ℕ → ℕ) → ℕ → State → List Event → Type 0
+ArePicked plan pick n s [] = Unit {0}
+ArePicked plan pick n s (e ∷ es) = (is_quiet plan s ≡ false) × (e ≡ next_event plan s (pick n))
+    × ArePicked plan pick (picks_after plan s n) (happens plan s e) es
+
 -- the listed picks in their order, and then 0
 abbrev pub listed_pick : List ℕ → ℕ → ℕ
 listed_pick picks n = slice_index_or picks n 0

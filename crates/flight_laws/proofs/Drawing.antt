@@ -37,7 +37,7 @@ use Rattle.far_model.specs.State.{State, client_at, clients_from, line_at, nobod
 use Rattle.far_model.specs.View.{empty_slot}
 use Rattle.far_model.proofs.Members.{among_append, among_at, among_remove}
 use Rattle.flight_laws.proofs.Lists.{all_set, get_or-replicate_default, by_test}
-use Rattle.far_invariants.specs.DrawnNumbers.{ClientWithin, ControllerWithin, EvictionWithin, JobWithin, NumbersAreDrawn, NumbersWithin, RecordsWithin, RoundWithin, ViewsWithin, begun_number, drawn_count, is_numbering, number_in, number_of, part_number}
+use Rattle.far_invariants.specs.DrawnNumbers.{ClientWithin, ControllerWithin, EvictionWithin, JobWithin, NumbersAreDrawn, NumbersWithin, RecordsWithin, RoundWithin, ViewsWithin, begun_number, drawn_count, is_numbering, mark_number, number_in, number_of, part_number}
 use Rattle.flight_laws.proofs.Counts.{count_append, count_cons}
 use Rattle.flight_laws.proofs.Moves.{sent_is}
 use Rattle.flight_laws.proofs.Numbers.{each_more, filter_within, is_write, pass_within, put_within}
@@ -274,6 +274,7 @@ within_more n m ceiling s b h = record {
   counter = le_trans h.counter b;
   ceiling_too = le_trans h.ceiling_too b;
   slots = λ i. le_trans (h.slots i) b;
+  marks = λ i. le_trans (h.marks i) b;
   packets = λ x a. le_trans (h.packets x a) b;
   clients = λ c. record { released = le_trans (h.clients c).released b; preserved = each_more (λ (r : Record). r.num) n m _ b (h.clients c).preserved };
   servers = λ k. each_more (λ (r : Record). r.num) n m _ b (h.servers k);
@@ -312,10 +313,10 @@ module _ (plan : PlanView) (n ceiling : ℕ) (s : State) (h : NumbersWithin n ce
       by (inr b) = let o = sent_is from outs x b in subst (λ (w : Message). number_in w.packet ≤ n) (sym o.2) (f o.0 o.1)
 
   pub control_in : (t : Turn ControllerState) → TurnWithin n t → NumbersWithin n ceiling (controller_turn s rest t)
-  control_in t w = record { counter = h.counter; ceiling_too = h.ceiling_too; slots = h.slots; packets = bag_within Controller t.out (λ o a. outs_within n t.out o w.outs a); clients = h.clients; servers = h.servers; controller = w.state }
+  control_in t w = record { counter = h.counter; ceiling_too = h.ceiling_too; slots = h.slots; marks = h.marks; packets = bag_within Controller t.out (λ o a. outs_within n t.out o w.outs a); clients = h.clients; servers = h.servers; controller = w.state }
 
   client_in : (c : ℕ) (t : Turn ClientState) → ClientWithin n t.state → ((o : Out) → Among o t.out → number_in o.packet ≤ n) → NumbersWithin n ceiling (client_turn s c rest t)
-  client_in c t w f = record { counter = h.counter; ceiling_too = h.ceiling_too; slots = h.slots; packets = bag_within (Client c) t.out f; clients = λ d. all_set (ClientWithin n) s.clients c t.state nobody w h.clients d; servers = h.servers; controller = h.controller }
+  client_in c t w f = record { counter = h.counter; ceiling_too = h.ceiling_too; slots = h.slots; marks = h.marks; packets = bag_within (Client c) t.out f; clients = λ d. all_set (ClientWithin n) s.clients c t.state nobody w h.clients d; servers = h.servers; controller = h.controller }
 
   tells_in : (round c total : ℕ) (items : List Record) → RecordsWithin n items → (o : Out) → Among o (tells_each round c total items) → number_in o.packet ≤ n
   tells_in round c total [] b o a = absurd a
@@ -357,6 +358,7 @@ module _ (plan : PlanView) (n ceiling : ℕ) (s : State) (h : NumbersWithin n ce
     counter = h.counter;
     ceiling_too = (let c = h.ceiling_too in let q = put_in p b in omega (arith, c, q));
     slots = h.slots;
+    marks = h.marks;
     packets = λ x a. by reply f x (among_append x rest (reply_message k reply) a);
     clients = h.clients;
     servers = λ d. all_set (RecordsWithin n) s.servers k (server_keeps (records_at s k) p) [] (keeps_in (records_at s k) p (h.servers k) b) h.servers d;
@@ -370,8 +372,8 @@ module _ (plan : PlanView) (n ceiling : ℕ) (s : State) (h : NumbersWithin n ce
       by (Some q) f x (inr (inr a)) = absurd a
 
   pub switch_in : (p : Packet) → number_in p ≤ n → (is_write p ≡ true → s.switch.counter + 1 ≤ n) → NumbersWithin n ceiling (switch_turn s rest p (pass s.switch p))
-  switch_in p b w = let r = pass_within n s.switch h.counter h.slots p b w in
-      record { counter = r.counter; ceiling_too = h.ceiling_too; slots = r.slots; packets = bag_within Switch (passed_out (pass s.switch p)) r.outs; clients = h.clients; servers = h.servers; controller = h.controller }
+  switch_in p b w = let r = pass_within n s.switch h.counter h.slots h.marks p b w in
+      record { counter = r.counter; ceiling_too = h.ceiling_too; slots = r.slots; marks = r.marks; packets = bag_within Switch (passed_out (pass s.switch p)) r.outs; clients = h.clients; servers = h.servers; controller = h.controller }
 
 -- ---- the log
 
@@ -434,6 +436,7 @@ order_in plan ceiling s (Some (StopOrder step)) h = with_log (drawn_count s.log)
   counter = omega arith;
   ceiling_too = h.ceiling_too;
   slots = λ i. subst (λ x. x.num ≤ drawn_count s.log) (sym (get_or-replicate_default plan.config.slots i empty_slot)) (omega arith);
+  marks = λ i. subst (λ m. mark_number m ≤ drawn_count s.log) (sym (get_or-replicate_default plan.config.slots i None)) (omega arith);
   packets = h.packets;
   clients = h.clients;
   servers = h.servers;
@@ -443,6 +446,7 @@ order_in plan ceiling s (Some (StopAtOrder kind times)) h = with_log (drawn_coun
   counter = omega arith;
   ceiling_too = h.ceiling_too;
   slots = λ i. subst (λ x. x.num ≤ drawn_count s.log) (sym (get_or-replicate_default plan.config.slots i empty_slot)) (omega arith);
+  marks = λ i. subst (λ m. mark_number m ≤ drawn_count s.log) (sym (get_or-replicate_default plan.config.slots i None)) (omega arith);
   packets = h.packets;
   clients = h.clients;
   servers = h.servers;
@@ -490,6 +494,7 @@ step_in plan k ceiling s Restart h ans = go (ready s.controller) refl
       counter = counter_in s.controller.round counter h.controller.round e;
       ceiling_too = h.ceiling_too;
       slots = λ i. subst (λ x. x.num ≤ drawn_count s.log) (sym (get_or-replicate_default plan.config.slots i empty_slot)) (omega arith);
+      marks = λ i. subst (λ m. mark_number m ≤ drawn_count s.log) (sym (get_or-replicate_default plan.config.slots i None)) (omega arith);
       packets = h.packets;
       clients = h.clients;
       servers = h.servers;
@@ -497,13 +502,14 @@ step_in plan k ceiling s Restart h ans = go (ready s.controller) refl
     }) (log_more s (Recovered counter (length k.records) ∷ recovery_items k.records))
 step_in plan k ceiling s (OrderOf j) h ans =
     let d = order_in plan ceiling s (slice_get plan.orders j) h in
-    record { counter = d.counter; ceiling_too = d.ceiling_too; slots = d.slots; packets = d.packets; clients = d.clients; servers = d.servers; controller = d.controller }
+    record { counter = d.counter; ceiling_too = d.ceiling_too; slots = d.slots; marks = d.marks; packets = d.packets; clients = d.clients; servers = d.servers; controller = d.controller }
 
 pub opens_in : (plan : PlanView) → NumbersAreDrawn 0 (opening plan)
 opens_in plan = record {
   counter = omega arith;
   ceiling_too = omega arith;
   slots = λ i. subst (λ x. x.num ≤ 0) (sym (get_or-replicate_default plan.config.slots i empty_slot)) (omega arith);
+  marks = λ i. subst (λ m. mark_number m ≤ 0) (sym (get_or-replicate_default plan.config.slots i None)) (omega arith);
   packets = λ m a. absurd a;
   clients = λ c. clients plan.ops 0 plan.config.clients c;
   servers = λ i. subst (RecordsWithin 0) (sym (get_or-replicate_default plan.config.servers i [])) tt;

@@ -3,7 +3,7 @@ use Rattle.far_invariants.specs.Slots.{IsGiven, is_admission_of, admits_under, a
 use Rattle.std.proofs.Common.{◌≡◌, ℕ, zero, suc, ◌+◌, ◌≤◌, ◌<◌, ◌⊎◌, inl, inr, Bool, true, false, true≢false, not, ◌&&◌, ◌||◌, nat_eq, eq-eqb, ne_eqb, List, [], ◌∷◌, ◌++◌, length, replicate, refl, sym, ap, ◌∙◌, subst, arith}
 use Rattle.std.specs.Prelude.{Option, None, Some, is_some, slice_index_or}
 use Rattle.std.specs.List.{count_by, list_all, list_any}
-use Rattle.std.proofs.lemmas.Bool.{and_parts, cases_eq, le-leb, lt-leb}
+use Rattle.std.proofs.lemmas.Bool.{and_parts, le-leb, lt-leb}
 use Rattle.std.proofs.lemmas.Option.{none-some}
 use Rattle.std.proofs.lemmas.List.{length-replicate, map-append}
 use Rattle.far_base.specs.Limits.{IsPlan}
@@ -29,7 +29,7 @@ use Rattle.far_model.proofs.Members.{among_append}
 use Rattle.flight_laws.proofs.Lists.{get_or-replicate_default}
 use Rattle.far_invariants.specs.InFlight.{AdmissionFits, AdmissionMeets, Emptied, OwnFlies, RoundFlies, epoch_in, is_ask, is_job_from, is_told, is_top}
 use Rattle.far_invariants.specs.Sizes.{IsSizedView}
-use Rattle.flight_laws.proofs.Counts.{count_append, count_cons, count_none, counted, counted_false, counted_true, each_counted, one_each}
+use Rattle.flight_laws.proofs.Counts.{count_append, count_cons, count_none, counted_true, each_counted, one_each}
 use Rattle.flight_laws.proofs.Frames.{no_round}
 use Rattle.flight_laws.proofs.SwitchKeeps.{Inv, running_no_round}
 

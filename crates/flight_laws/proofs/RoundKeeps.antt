@@ -1,9 +1,9 @@
 -- Rounds at the controller: records are told and stored, tops are asked and told; recovery begins.
 use Rattle.far_invariants.specs.Slots.{IsGiven}
-use Rattle.std.proofs.Common.{◌≡◌, ℕ, zero, suc, ◌+◌, ◌≤◌, ◌<◌, ◌⊎◌, inl, inr, Bool, true, false, true≢false, cond, not, ◌&&◌, nat_eq, eq-eqb, eqb-true, ne_eqb, List, [], ◌∷◌, ◌++◌, append_assoc, length, refl, sym, ap, ◌∙◌, subst, arith, le_trans}
+use Rattle.std.proofs.Common.{◌≡◌, ℕ, zero, suc, ◌≤◌, ◌<◌, ◌⊎◌, inl, inr, Bool, true, false, true≢false, cond, not, ◌&&◌, nat_eq, eq-eqb, eqb-true, ne_eqb, List, [], ◌∷◌, ◌++◌, append_assoc, length, refl, sym, ap, ◌∙◌, subst, arith, le_trans}
 use Rattle.std.specs.Prelude.{None, Some, slice_index_or, is_some}
 use Rattle.std.specs.List.{count_by, list_all}
-use Rattle.std.proofs.lemmas.Bool.{and_parts, cases_eq}
+use Rattle.std.proofs.lemmas.Bool.{and_parts}
 use Rattle.std.proofs.lemmas.List.{map-append}
 use Rattle.far_base.specs.PlanView.{PlanView}
 use Rattle.far_base.specs.declared.packet.Message.{Message}
@@ -23,7 +23,7 @@ use Rattle.far_model.specs.State.{State}
 use Rattle.far_model.proofs.Members.{among_append, among_map}
 use Rattle.far_invariants.specs.InFlight.{EvictionsFly, IsAsked, IsEvicted, IsTelling, OwnFlies, RoundFlies, RoundIs, TotalIs, due_top, epoch_in, is_ask, is_job_from, is_told, is_top}
 use Rattle.flight_laws.proofs.ControlKeeps.{control_admissions, control_epochs, control_sized, control_snapshots}
-use Rattle.flight_laws.proofs.Counts.{count_append, count_cons, count_none, counted, counted_false, counted_true, each_counted, one_each}
+use Rattle.flight_laws.proofs.Counts.{count_append, count_none, counted_false, each_counted, one_each}
 use Rattle.flight_laws.proofs.Moves.{Takes, moves_taken, of_admission, of_snapshot, sent_is}
 use Rattle.flight_laws.proofs.SwitchKeeps.{Inv}
 

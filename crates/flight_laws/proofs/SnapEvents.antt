@@ -1,5 +1,5 @@
 -- Every event leaves what holds of snapshots.
-use Rattle.std.proofs.Common.{◌≡◌, ℕ, ◌+◌, ◌<◌, ◌⊎◌, inl, inr, Bool, true, false, cond, List, [], ◌∷◌, ◌++◌, refl, sym, ap, ◌∙◌, subst, arith, eqb-true, eq-eqb}
+use Rattle.std.proofs.Common.{◌≡◌, ℕ, ◌+◌, Bool, true, false, cond, List, [], ◌∷◌, ◌++◌, refl, sym, ap, ◌∙◌, subst, arith, eqb-true, eq-eqb}
 use Rattle.std.specs.Prelude.{Option, Some, None, if◌then◌else◌, ◌&&◌, ◌||◌, not, nat_eq, is_some, slice_get}
 use Rattle.std.specs.List.{remove}
 use Rattle.std.proofs.lemmas.List.{append-nil}
@@ -30,7 +30,7 @@ use Rattle.flight_laws.proofs.SnapBasics.{both, not_true, count_removed, none_co
 use Rattle.flight_laws.proofs.SnapFrame.{rest_all, rest_taken, IsPlainNote}
 use Rattle.flight_laws.proofs.SnapPasses.{pass_is, dropped_is, is_start}
 use Rattle.flight_laws.proofs.SnapSwitching.{pass_stands}
-use Rattle.flight_laws.proofs.SnapStarting.{pass_fresh, start_stands}
+use Rattle.flight_laws.proofs.SnapStarting.{BaseComes, pass_fresh, start_stands}
 use Rattle.flight_laws.proofs.SnapGathering.{aside_stands, begun_stands, part_stands, same_stands}
 use Rattle.flight_laws.proofs.SnapRuling.{order_stands, stop_stands, recover_stands, restart_stands}
 use Rattle.flight_laws.proofs.SnapTurning.{taken_stands, sent_stands, served_stands, replies_in_kind, wanted_aside, takes_aside, evict_aside, tick_aside}
@@ -48,14 +48,14 @@ module _ {tells : Bool} (plan : PlanView) (s : State) (starts : List SnapshotSta
   none_new t k = subst (SnapshotsStand tells plan t) (sym (append-nil starts)) k
 
   -- the start of a snapshot comes to the switch
-  started : (m : Message) → slice_get s.bag i ≡ Some m → s.running ≡ true → (packet : Packet) → m.packet ≡ packet → (epoch id base : ℕ) → is_start_in epoch packet ≡ true
+  started : (m : Message) → slice_get s.bag i ≡ Some m → s.running ≡ true → (packet : Packet) → m.packet ≡ packet → (epoch id base : ℕ) (difference : Bool) → is_start_in epoch packet ≡ true
       → (s.running ≡ true → epoch ≡ s.controller.epoch → JobWaits (gathering s.controller) starts id)
-      → (epoch ≡ s.controller.epoch → (base ≡ 0) ⊎ ((base ≡ s.controller.last.id) × (s.controller.last_epoch ≡ s.controller.epoch) × (0 < base)))
+      → (epoch ≡ s.controller.epoch → BaseComes (gathering s.controller) base difference)
       → Each IsPlainNote (pass_notes packet (starts_snapshot s.switch id base)) → pass_notes packet (dropped s.switch) ≡ []
       → (b : Bool) → nat_eq epoch s.switch.epoch ≡ b
-      → SnapshotsStand tells plan (switch_turn s (remove s.bag i) packet (if b then starts_snapshot s.switch id base else dropped s.switch)) (starts ++ (if b then start_of s.switch id ∷ [] else []))
-  started m at runs packet is epoch id base own waits by plain silent true e =
-      start_stands plan s starts h owed runs (remove s.bag i) (rest_taken s.bag i m at) id base (waits runs present) (by present) none packet plain
+      → SnapshotsStand tells plan (switch_turn s (remove s.bag i) packet (if b then starts_snapshot s.switch id base else dropped s.switch)) (starts ++ (if b then start_of s.switch id difference ∷ [] else []))
+  started m at runs packet is epoch id base difference own waits by plain silent true e =
+      start_stands plan s starts h owed runs (remove s.bag i) (rest_taken s.bag i m at) id base difference (waits runs present) (by present) none packet plain
     where
       present : epoch ≡ s.controller.epoch
       present = eqb-true _ _ e ∙ (h.in_step runs).epoch
@@ -66,7 +66,7 @@ module _ {tells : Bool} (plan : PlanView) (s : State) (starts : List SnapshotSta
           let it : is_start_in s.controller.epoch m.packet ≡ true = subst (λ w. is_start_in w m.packet ≡ true) present (ap (is_start_in epoch) is ∙ own) in
           let one : counted (λ (n : Message). is_start_in s.controller.epoch n.packet) m ≡ 1 = ap (λ b. cond {A = ℕ} b 1 0) it in
           let most = h.once runs in omega (arith, sum, one, most))
-  started m at runs packet is epoch id base own waits by plain silent false e =
+  started m at runs packet is epoch id base difference own waits by plain silent false e =
       none_new _ (pass_stands plan s starts h owed runs (remove s.bag i) (rest_taken s.bag i m at) packet (dropped s.switch) (dropped_is s.switch h.switch.bare) (λ told. subst (λ l. Each (Rattle.flight_laws.proofs.SnapFrame.IsFreshNote s) l) (sym silent) tt))
 
   passed : (m : Message) → slice_get s.bag i ≡ Some m → s.running ≡ true → (p : Packet) → m.packet ≡ p → is_start p ≡ false → SnapshotsStand tells plan (switch_turn s (remove s.bag i) p (pass s.switch p)) (starts ++ starts_by s.switch Switch p)
@@ -76,8 +76,8 @@ module _ {tells : Bool} (plan : PlanView) (s : State) (starts : List SnapshotSta
       (λ told. pass_fresh s p (subst (Rattle.far_invariants.specs.SnapshotNeeds.IsUnnumberedRead s) is (owed.reads told m (among_at m s.bag i at))))))
 
   at_switch : (m : Message) → slice_get s.bag i ≡ Some m → s.running ≡ true → (p : Packet) → m.packet ≡ p → PacketStands tells s.running (gathering s.controller) starts p → SnapshotsStand tells plan (switch_turn s (remove s.bag i) p (pass s.switch p)) (starts ++ starts_by s.switch Switch p)
-  at_switch m at runs (SnapStart epoch id) is k = started m at runs (SnapStart epoch id) is epoch id 0 (eq-eqb epoch epoch refl) k.waits (λ present. inl refl) tt refl (nat_eq epoch s.switch.epoch) refl
-  at_switch m at runs (SnapFrom epoch id base) is k = started m at runs (SnapFrom epoch id base) is epoch id base (eq-eqb epoch epoch refl) k.0.waits (λ present. inr (k.1 runs present)) tt refl (nat_eq epoch s.switch.epoch) refl
+  at_switch m at runs (SnapStart epoch id) is k = started m at runs (SnapStart epoch id) is epoch id 0 false (eq-eqb epoch epoch refl) k.waits (λ present. refl) tt refl (nat_eq epoch s.switch.epoch) refl
+  at_switch m at runs (SnapFrom epoch id base) is k = started m at runs (SnapFrom epoch id base) is epoch id base true (eq-eqb epoch epoch refl) k.0.waits (λ present. k.1 runs present) tt refl (nat_eq epoch s.switch.epoch) refl
   at_switch m at runs p is k = passed m at runs p is refl
 
   at_controller : (m : Message) → slice_get s.bag i ≡ Some m → (p : Packet) → m.packet ≡ p → SnapshotsStand tells plan (controller_turn s (remove s.bag i) (controller_takes plan.config s.controller p)) starts

@@ -22,7 +22,7 @@ use Rattle.far_model.specs.State.{State}
 use Rattle.far_model.specs.View.{is_taken}
 use Rattle.far_model.proofs.Members.{among_append, among_append_left}
 use Rattle.far_invariants.specs.Notes.{IsSlotNote}
-use Rattle.far_invariants.specs.Snapshots.{view_at, IsInViews, IsStartOf, WasStarted, HadView, Gathering, gathering, IsLast, JobStands, ByDifference, JobRuns, JobWaits, PacketStands, PartIsTaken, is_start_in, SnapshotsStand}
+use Rattle.far_invariants.specs.Snapshots.{view_at, IsInViews, IsStartOf, WasStarted, HadView, Gathering, gathering, IsLast, JobStands, BaseIs, JobRuns, JobWaits, PacketStands, PartIsTaken, is_start_in, SnapshotsStand}
 use Rattle.flight_laws.proofs.SnapBasics.{both, by_test, by_case, set_cases, list_all_at}
 use Rattle.flight_laws.proofs.SnapFrame.{is_foreign, IsForeignOut, foreign_stands, foreign_part, IsRest, sent_is, news_in, count_in, foreign_count, one_start, points_rise, IsPlainNote, AbsorbsFresh, absorbs_plain, noted_more, cover_lasts, last_counted, quiet_stands}
 
@@ -109,7 +109,7 @@ items_plain i (Some item ∷ views) = (tt, items_plain (suc i) views)
 
 module _ {tells : Bool} (plan : PlanView) (s : State) (starts : List SnapshotStart) (h : SnapshotsStand tells plan s starts) (rest : List Message) (r : IsRest s.bag rest) (job : Job) (is : s.controller.job ≡ Some job)
     (new : Job) (id : new.id ≡ job.id) (stands : JobStands tells plan (gathering s.controller) starts new)
-    (keeps : s.running ≡ true → (start : SnapshotStart) → IsStartOf starts new.id start → JobRuns plan s.switch (gathering s.controller) new) where
+    (keeps : s.running ≡ true → (start : SnapshotStart) → IsStartOf starts new.id start → JobRuns plan s.switch (gathering s.controller) new start) where
   old_start : (start : SnapshotStart) → IsStartOf starts new.id start → IsStartOf starts job.id start
   old_start start of = record { there = of.there; is = of.is ∙ id }
 
@@ -122,7 +122,7 @@ module _ {tells : Bool} (plan : PlanView) (s : State) (starts : List SnapshotSta
     in_step = λ up. record {
       epoch = (h.in_step up).epoch;
       counted = (h.in_step up).counted;
-      runs = λ j k start of. subst (JobRuns plan s.switch (gathering t.controller)) (same_Some new j k) (runs up start (record { there = of.there; is = of.is ∙ sym (ap (λ (x : Job). x.id) (same_Some new j k)) }));
+      runs = λ j k start of. subst (λ (x : Job). JobRuns plan s.switch (gathering t.controller) x start) (same_Some new j k) (runs up start (record { there = of.there; is = of.is ∙ sym (ap (λ (x : Job). x.id) (same_Some new j k)) }));
       settled = λ some present settled.
           let all = (h.in_step up).settled some present (λ j k start a. let l = settled new refl start a in let e = ap (λ (x : Job). x.id) (same_Some job j (sym is ∙ k)) in omega (arith, l, e, id)) in
           record { snap = all.snap; taken = all.taken };
@@ -149,12 +149,12 @@ module _ {tells : Bool} (plan : PlanView) (s : State) (starts : List SnapshotSta
       its : JobStands tells plan (record (gathering s.controller) { job = Some new }) starts new
       its = record { below = stands.below; newer = stands.newer; slots = stands.slots; begun = stands.begun; parts = stands.parts }
 
-      runs : s.running ≡ true → (start : SnapshotStart) → IsStartOf starts new.id start → JobRuns plan s.switch (record (gathering s.controller) { job = Some new }) new
-      runs up start of = let k = keeps up start of in record { snap = k.snap; base = base k.base; parts = k.parts }
+      runs : s.running ≡ true → (start : SnapshotStart) → IsStartOf starts new.id start → JobRuns plan s.switch (record (gathering s.controller) { job = Some new }) new start
+      runs up start of = let k = keeps up start of in record { snap = k.snap; base = base start.by_difference k.base; parts = k.parts }
         where
-          base : (s.switch.base ≡ 0) ⊎ ByDifference plan s.switch (gathering s.controller) → (s.switch.base ≡ 0) ⊎ ByDifference plan s.switch (record (gathering s.controller) { job = Some new })
-          base (inl e) = inl e
-          base (inr d) = inr (record { base = d.base; present = d.present; untaken = d.untaken })
+          base : (b : Bool) → BaseIs plan s.switch (gathering s.controller) b → BaseIs plan s.switch (record (gathering s.controller) { job = Some new }) b
+          base false e = e
+          base true d = record { some = d.some; base = d.base; present = d.present; untaken = d.untaken }
 
       packet_of : (m : Message) → Among m s.bag ⊎ (is_foreign m.packet ≡ true) → PacketStands tells s.running (record (gathering s.controller) { job = Some new }) starts m.packet
       packet_of m (inl a) = same_job_packet tells s.running (gathering s.controller) starts job new is id m.packet (h.packets m a)
@@ -293,7 +293,7 @@ module _ {tells : Bool} (plan : PlanView) (s : State) (starts : List SnapshotSta
             (λ e same. subst (λ w. HadView tells starts job.id w v) (sym e) (subst (HadView tells starts job.id i) (same_Some view v same) had)) (λ ne. k.parts j v) (λ past. k.parts j v);
       }
 
-      keeps : s.running ≡ true → (start : SnapshotStart) → IsStartOf starts job.id start → JobRuns plan s.switch (gathering s.controller) (record (with_part job i view) { sames = sames })
+      keeps : s.running ≡ true → (start : SnapshotStart) → IsStartOf starts job.id start → JobRuns plan s.switch (gathering s.controller) (record (with_part job i view) { sames = sames }) start
       keeps up start of = let k = (h.in_step up).runs job is start of in record {
         snap = k.snap;
         base = k.base;

@@ -11,9 +11,9 @@ use Rattle.far_model.specs.Members.{Among}
 use Rattle.far_invariants.specs.Past.{SnapshotStart}
 use Rattle.far_model.specs.Snapshots.{SnapshotView, no_snapshot, view_records}
 use Rattle.far_model.specs.State.{State}
-use Rattle.far_model.specs.View.{mark_of, taken_at, shown_at, is_taken}
+use Rattle.far_model.specs.View.{mark_of, taken_at, shown_at}
 use Rattle.far_invariants.specs.SnapshotLaws.{PartsAreStarts, MarksMatch, StartCoversPoint, ReleasedIsCovered, PreservedIsAbove, CompletionIsSafe}
-use Rattle.far_invariants.specs.Snapshots.{view_at, IsInViews, IsStartOf, HadView, gathering, part_at, IsLast, ByDifference, PacketStands, PartIsTaken, SnapshotsStand}
+use Rattle.far_invariants.specs.Snapshots.{view_at, IsInViews, IsStartOf, HadView, gathering, part_at, IsLast, BaseIs, PacketStands, PartIsTaken, SnapshotsStand}
 use Rattle.flight_laws.proofs.SnapFrame.{one_start, points_rise}
 
 -- ---- views as records
@@ -68,18 +68,15 @@ module _ (plan : PlanView) (s : State) (starts : List SnapshotStart) (h : Snapsh
   pub marks_match : MarksMatch plan s starts
   marks_match = record {
     marks = λ some i e. last some i e h.gathered.last;
-    base = λ up j start is of some. based some ((h.in_step up).runs j is start of).base;
+    base = λ up j start is of by. let d = subst (BaseIs plan s.switch (gathering s.controller)) by ((h.in_step up).runs j is start of).base in
+        record { some = d.some; last = d.base; present = d.present; untaken = λ i within u. d.untaken i within u ∙ sym d.base };
+    no_base = λ up j start is of by. subst (BaseIs plan s.switch (gathering s.controller)) by ((h.in_step up).runs j is start of).base;
     settled = λ up some present settled. ((h.in_step up).settled some present settled).taken;
   }
     where
       last : 0 < s.controller.last.id → (i : ℕ) → taken_at s.switch i ≡ s.controller.last.id → (s.controller.last ≡ no_snapshot) ⊎ IsLast true starts s.controller.last → shown_at s.switch i ≡ mark_of (view_at s.controller.last.views i)
       last some i e (inl none) = absurd (let z : s.controller.last.id ≡ 0 = ap (λ (w : SnapshotView). w.id) none in omega (arith, z, some))
       last some i e (inr l) = h.switch.marks l.start i (record { there = l.of.there; is = l.of.is ∙ sym e }) ∙ ap (λ views. mark_of (view_at views i)) (sym (l.views refl))
-
-      based : 0 < s.switch.base → (s.switch.base ≡ 0) ⊎ ByDifference plan s.switch (gathering s.controller)
-          → (s.switch.base ≡ s.controller.last.id) × (s.controller.last_epoch ≡ s.controller.epoch) × ((i : ℕ) → i < plan.config.slots → is_taken s.switch i ≡ false → taken_at s.switch i ≡ s.switch.base)
-      based some (inl z) = absurd (omega (arith, some, z))
-      based some (inr d) = (d.base, d.present, λ i within u. d.untaken i within u ∙ sym d.base)
 
   pub start_covers : StartCoversPoint plan s starts
   start_covers j start is of key num a le = either_cover plan s start.views key num ((h.covers refl).job j is start of key num a le)

@@ -85,14 +85,14 @@ module _ (plan : PlanView) (s : State) (k : Keeping) (rest : List Message) where
   start_leaves : (from : Party) (to : Party) (p : Packet) (start : SnapshotStart) → Among start (starts_by s.switch to p) → IsStartedBy s (handled plan k s rest to p) start (record { from = from; to = to; packet = p })
   start_leaves from Switch (SnapStart epoch id) start a = go (nat_eq epoch s.switch.epoch) refl a
     where
-      go : (b : Bool) → nat_eq epoch s.switch.epoch ≡ b → Among start (if b then start_of s.switch id ∷ [] else [])
+      go : (b : Bool) → nat_eq epoch s.switch.epoch ≡ b → Among start (if b then start_of s.switch id false ∷ [] else [])
           → IsStartedBy s (switch_turn s rest (SnapStart epoch id) (if b then starts_snapshot s.switch id 0 else dropped s.switch)) start (record { from = from; to = Switch; packet = SnapStart epoch id })
       go true e (inl same) = record { to = refl; starts_it = (eqb-true _ _ e, sym (ap (λ (x : SnapshotStart). x.id) same)); views = ap (λ (x : SnapshotStart). x.views) same; counter = ap (λ (x : SnapshotStart). x.counter) same }
       go true e (inr a) = absurd a
       go false e a = absurd a
   start_leaves from Switch (SnapFrom epoch id base) start a = go (nat_eq epoch s.switch.epoch) refl a
     where
-      go : (b : Bool) → nat_eq epoch s.switch.epoch ≡ b → Among start (if b then start_of s.switch id ∷ [] else [])
+      go : (b : Bool) → nat_eq epoch s.switch.epoch ≡ b → Among start (if b then start_of s.switch id true ∷ [] else [])
           → IsStartedBy s (switch_turn s rest (SnapFrom epoch id base) (if b then starts_snapshot s.switch id base else dropped s.switch)) start (record { from = from; to = Switch; packet = SnapFrom epoch id base })
       go true e (inl same) = record { to = refl; starts_it = (eqb-true _ _ e, sym (ap (λ (x : SnapshotStart). x.id) same)); views = ap (λ (x : SnapshotStart). x.views) same; counter = ap (λ (x : SnapshotStart). x.counter) same }
       go true e (inr a) = absurd a
@@ -219,14 +219,19 @@ past_at : (plan : PlanView) (s : State) (p : Past) (es later : List Event) (e : 
 past_at plan s p [] later e x a = past_more plan (happens plan s e) (remembers s p e) later x (Rattle.far_model.proofs.Members.among_append_right x p.starts (new_starts s e) a)
 past_at plan s p (y ∷ es) later e x a = past_at plan (happens plan s y) (remembers s p y) es later e x a
 
-starts_then : (v : SwitchView) (to : Party) (p : Packet) (id : ℕ) → to ≡ Switch → IsStartWith id v.epoch p → Among (start_of v id) (starts_by v to p)
+-- whether it starts a snapshot by difference
+abbrev is_from : Packet → Bool
+is_from (SnapFrom epoch id base) = true
+is_from _ = false
+
+starts_then : (v : SwitchView) (to : Party) (p : Packet) (id : ℕ) → to ≡ Switch → IsStartWith id v.epoch p → Among (start_of v id (is_from p)) (starts_by v to p)
 starts_then v (Client c) p id e k = absurd cc
 starts_then v (Server n) p id e k = absurd cc
 starts_then v Controller p id e k = absurd cc
 starts_then v Switch (SnapStart epoch other) id e k =
-    subst (λ b. Among (start_of v id) (if b then start_of v other ∷ [] else [])) (sym (eq-eqb epoch v.epoch k.0)) (inl (ap (start_of v) (sym k.1)))
+    subst (λ b. Among (start_of v id false) (if b then start_of v other false ∷ [] else [])) (sym (eq-eqb epoch v.epoch k.0)) (inl (ap (λ n. start_of v n false) (sym k.1)))
 starts_then v Switch (SnapFrom epoch other base) id e k =
-    subst (λ b. Among (start_of v id) (if b then start_of v other ∷ [] else [])) (sym (eq-eqb epoch v.epoch k.0)) (inl (ap (start_of v) (sym k.1)))
+    subst (λ b. Among (start_of v id true) (if b then start_of v other true ∷ [] else [])) (sym (eq-eqb epoch v.epoch k.0)) (inl (ap (λ n. start_of v n true) (sym k.1)))
 starts_then v Switch _ id e k = absurd k
 
 -- the start of a snapshot at an id
@@ -238,8 +243,8 @@ pub record IsRemembered (plan : PlanView) (events : List Event) (id : ℕ) (view
 
 is_remembered : (plan : PlanView) (events : List Event) (id : ℕ) (views : List (Option Record)) (point : ℕ) → IsSnapshotAt plan events id views point → IsRemembered plan events id views point
 is_remembered plan events id views point k = record {
-  start = start_of before.switch id;
-  of = record { there = subst (λ l. Among (start_of before.switch id) (past_of plan l).starts) (sym k.split) (past_at plan (opening plan) no_past k.earlier k.later (Deliver k.place) (start_of before.switch id) made); is = refl };
+  start = start_of before.switch id (is_from k.message.packet);
+  of = record { there = subst (λ l. Among (start_of before.switch id (is_from k.message.packet)) (past_of plan l).starts) (sym k.split) (past_at plan (opening plan) no_past k.earlier k.later (Deliver k.place) (start_of before.switch id (is_from k.message.packet)) made); is = refl };
   views_are = k.views_are ∙ sym (ap (λ (x : State). map held_record x.switch.slots) after) ∙ sym d.views;
   point_is = k.point_is ∙ sym (ap (λ (x : State). x.switch.counter) after) ∙ sym d.counter;
 }
@@ -247,12 +252,12 @@ is_remembered plan events id views point k = record {
     before : State
     before = run plan (opening plan) k.earlier
 
-    made : Among (start_of (run plan (opening plan) k.earlier).switch id) (new_starts (run plan (opening plan) k.earlier) (Deliver k.place))
-    made = subst (λ o. Among (start_of (run plan (opening plan) k.earlier).switch id) (starts_with (run plan (opening plan) k.earlier).switch o)) (sym k.there)
+    made : Among (start_of (run plan (opening plan) k.earlier).switch id (is_from k.message.packet)) (new_starts (run plan (opening plan) k.earlier) (Deliver k.place))
+    made = subst (λ o. Among (start_of (run plan (opening plan) k.earlier).switch id (is_from k.message.packet)) (starts_with (run plan (opening plan) k.earlier).switch o)) (sym k.there)
         (starts_then (run plan (opening plan) k.earlier).switch k.message.to k.message.packet id k.to k.starts_it)
 
-    d : IsStartedBy (run plan (opening plan) k.earlier) (happens plan (run plan (opening plan) k.earlier) (Deliver k.place)) (start_of (run plan (opening plan) k.earlier).switch id) (made_by_delivery plan (run plan (opening plan) k.earlier) (Deliver k.place) (start_of (run plan (opening plan) k.earlier).switch id) made).message
-    d = (made_by_delivery plan (run plan (opening plan) k.earlier) (Deliver k.place) (start_of (run plan (opening plan) k.earlier).switch id) made).by
+    d : IsStartedBy (run plan (opening plan) k.earlier) (happens plan (run plan (opening plan) k.earlier) (Deliver k.place)) (start_of (run plan (opening plan) k.earlier).switch id (is_from k.message.packet)) (made_by_delivery plan (run plan (opening plan) k.earlier) (Deliver k.place) (start_of (run plan (opening plan) k.earlier).switch id (is_from k.message.packet)) made).message
+    d = (made_by_delivery plan (run plan (opening plan) k.earlier) (Deliver k.place) (start_of (run plan (opening plan) k.earlier).switch id (is_from k.message.packet)) made).by
 
     after : happens plan (run plan (opening plan) k.earlier) (Deliver k.place) ≡ run plan (opening plan) (k.earlier ++ Deliver k.place ∷ [])
     after = sym (run_one plan (opening plan) k.earlier (Deliver k.place))

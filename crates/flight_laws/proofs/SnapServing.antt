@@ -134,7 +134,7 @@ module _ {tells : Bool} (plan : PlanView) (s : State) (starts : List SnapshotSta
   none_yet : (j : Job) → s.controller.job ≡ Some j → (start : SnapshotStart) → IsStartOf starts j.id start → (k : ℕ) → is_taken s.switch k ≡ false → (parts_in j.id k s.bag ≡ 0) × (held_part j k ≡ 0)
   none_yet j is start of k u = (count_none (λ (m : Message). is_part_of j.id k m.packet) s.bag (λ x a. none x a (is_part_of j.id k x.packet) refl), held (part_at j k) refl)
     where
-      r : JobRuns plan s.switch (gathering s.controller) j
+      r : JobRuns plan s.switch (gathering s.controller) j start
       r = (h.in_step runs).runs j is start of
 
       none : (x : Message) → Among x s.bag → (b : Bool) → is_part_of j.id k x.packet ≡ b → b ≡ false

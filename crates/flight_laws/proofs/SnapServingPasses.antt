@@ -116,9 +116,9 @@ module _ {tells : Bool} (plan : PlanView) (s : State) (starts : List SnapshotSta
           go false t off = absurd (let a : nat_eq id s.switch.snap ≡ true = eq-eqb _ _ q in let all : (nat_eq id s.switch.snap && not (is_taken s.switch k)) ≡ true = ap (λ x. x && not (is_taken s.switch k)) a ∙ ap not t in let clash : true ≡ false = sym all ∙ off in cc)
 
   -- the start of a snapshot
-  start_flies : (id base : ℕ) → JobWaits (gathering s.controller) starts id → (no_part : (id k : ℕ) → is_part_of id k m.packet ≡ false) → (packet : Packet)
-      → SnapshotsInFlight plan (switch_turn s (remove s.bag i) packet (starts_snapshot s.switch id base)) (starts ++ start_of s.switch id ∷ [])
-  start_flies id base w no_part packet = record {
+  start_flies : (id base : ℕ) (difference : Bool) → JobWaits (gathering s.controller) starts id → (no_part : (id k : ℕ) → is_part_of id k m.packet ≡ false) → (packet : Packet)
+      → SnapshotsInFlight plan (switch_turn s (remove s.bag i) packet (starts_snapshot s.switch id base)) (starts ++ start_of s.switch id difference ∷ [])
+  start_flies id base difference w no_part packet = record {
     unfinished = f.unfinished;
     once = λ j is k. let o = f.once j is k in let t = total j.id k in omega (arith, o, t);
     one = λ up j is st k within tk. absurd (let a = h.switch.within k in let b = above in let c = eqb-true _ _ tk in omega (arith, a, b, c));
@@ -130,8 +130,8 @@ module _ {tells : Bool} (plan : PlanView) (s : State) (starts : List SnapshotSta
       same_job : (j : Job) → s.controller.job ≡ Some j → w.job ≡ j
       same_job j is = same_Some w.job j (sym w.under_way ∙ is)
 
-      started : (j : Job) → s.controller.job ≡ Some j → WasStarted (starts ++ start_of s.switch id ∷ []) j.id
-      started j is = record { start = start_of s.switch id; of = record { there = among_append_right (start_of s.switch id) starts (start_of s.switch id ∷ []) (inl refl); is = sym w.is ∙ ap (λ (x : Job). x.id) (same_job j is) } }
+      started : (j : Job) → s.controller.job ≡ Some j → WasStarted (starts ++ start_of s.switch id difference ∷ []) j.id
+      started j is = record { start = start_of s.switch id difference; of = record { there = among_append_right (start_of s.switch id difference) starts (start_of s.switch id difference ∷ []) (inl refl); is = sym w.is ∙ ap (λ (x : Job). x.id) (same_job j is) } }
 
       total : (own k : ℕ) → parts_in own k (remove s.bag i ++ messages_from Switch (to_party Controller (SnapBegun id s.switch.counter) ∷ [])) ≡ parts_in own k s.bag
       total own k =
@@ -158,12 +158,12 @@ module _ {tells : Bool} (plan : PlanView) (s : State) (starts : List SnapshotSta
   to_switch_part _ to e route id k = refl
 
   -- a start comes, of the present epoch or of an earlier one
-  started_flies : (packet : Packet) → m.packet ≡ packet → m.to ≡ Switch → IsFor plan.config m.packet m.to → (epoch id base : ℕ) → ((own : ℕ) → IsStartIn s.controller.epoch own packet → epoch ≡ s.controller.epoch)
+  started_flies : (packet : Packet) → m.packet ≡ packet → m.to ≡ Switch → IsFor plan.config m.packet m.to → (epoch id base : ℕ) (difference : Bool) → ((own : ℕ) → IsStartIn s.controller.epoch own packet → epoch ≡ s.controller.epoch)
       → (s.running ≡ true → epoch ≡ s.controller.epoch → JobWaits (gathering s.controller) starts id) → ((j k : ℕ) → IsReadOf s.controller.epoch j k packet → ⊥)
       → (b : Bool) → nat_eq epoch s.switch.epoch ≡ b
-      → SnapshotsInFlight plan (switch_turn s (remove s.bag i) packet (if b then starts_snapshot s.switch id base else dropped s.switch)) (starts ++ (if b then start_of s.switch id ∷ [] else []))
-  started_flies packet is to route epoch id base own waits no_read true e = start_flies id base (waits runs (eqb-true _ _ e ∙ (h.in_step runs).epoch)) (to_switch_part m.packet m.to to route) packet
-  started_flies packet is to route epoch id base own waits no_read false e = subst (SnapshotsInFlight plan (switch_turn s (remove s.bag i) packet (dropped s.switch))) (sym (append-nil starts))
+      → SnapshotsInFlight plan (switch_turn s (remove s.bag i) packet (if b then starts_snapshot s.switch id base else dropped s.switch)) (starts ++ (if b then start_of s.switch id difference ∷ [] else []))
+  started_flies packet is to route epoch id base difference own waits no_read true e = start_flies id base difference (waits runs (eqb-true _ _ e ∙ (h.in_step runs).epoch)) (to_switch_part m.packet m.to to route) packet
+  started_flies packet is to route epoch id base difference own waits no_read false e = subst (SnapshotsInFlight plan (switch_turn s (remove s.bag i) packet (dropped s.switch))) (sym (append-nil starts))
       (pass_flies (to_switch_begun m.packet m.to to route) (λ other st. let present = own other (subst (IsStartIn s.controller.epoch other) is st) in absurd (let yes : nat_eq epoch s.switch.epoch ≡ true = eq-eqb _ _ (present ∙ sym (h.in_step runs).epoch) in let clash : true ≡ false = sym yes ∙ e in cc))
       (to_switch_part m.packet m.to to route) packet (dropped s.switch) (λ j k job w within u r. no_read j.id k (subst (IsReadOf s.controller.epoch j.id k) is r)) (dropped_is s.switch h.switch.bare))
 
@@ -176,8 +176,8 @@ module _ {tells : Bool} (plan : PlanView) (s : State) (starts : List SnapshotSta
 
   pub switch_flies : (p : Packet) → m.packet ≡ p → m.to ≡ Switch → IsFor plan.config m.packet m.to → PacketStands tells s.running (gathering s.controller) starts p
       → SnapshotsInFlight plan (switch_turn s (remove s.bag i) p (pass s.switch p)) (starts ++ starts_by s.switch Switch p)
-  switch_flies (SnapStart epoch id) is to route k = started_flies (SnapStart epoch id) is to route epoch id 0 (λ own st. st.0) k.waits (λ j n r. r) (nat_eq epoch s.switch.epoch) refl
-  switch_flies (SnapFrom epoch id base) is to route k = started_flies (SnapFrom epoch id base) is to route epoch id base (λ own st. st.0) k.0.waits (λ j n r. r) (nat_eq epoch s.switch.epoch) refl
+  switch_flies (SnapStart epoch id) is to route k = started_flies (SnapStart epoch id) is to route epoch id 0 false (λ own st. st.0) k.waits (λ j n r. r) (nat_eq epoch s.switch.epoch) refl
+  switch_flies (SnapFrom epoch id base) is to route k = started_flies (SnapFrom epoch id base) is to route epoch id base true (λ own st. st.0) k.0.waits (λ j n r. r) (nat_eq epoch s.switch.epoch) refl
   switch_flies (SnapRead epoch id n) is to route k = subst (SnapshotsInFlight plan (switch_turn s (remove s.bag i) (SnapRead epoch id n) (pass s.switch (SnapRead epoch id n)))) (sym (append-nil starts))
       (other_flies (SnapRead epoch id n) is to route refl (λ own st. st) (λ j c within snap r. subst (λ x. is_taken (pass s.switch (SnapRead epoch id n)).view x ≡ true) r.2
       (read_takes epoch id n (r.0 ∙ sym (h.in_step runs).epoch) (r.1 ∙ snap) (let e = r.2 in omega (arith, e, within)))))

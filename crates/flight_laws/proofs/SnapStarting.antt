@@ -22,7 +22,7 @@ use Rattle.far_model.specs.State.{State, line_at}
 use Rattle.far_model.specs.View.{SlotView, SwitchView, slot_at, held_record, mark_of, taken_at, shown_at, is_taken, empty_slot, entry_place, server_of}
 use Rattle.far_model.proofs.Members.{among_append, among_append_right, pairs_append}
 use Rattle.far_invariants.specs.SnapshotNeeds.{Needs, IsUnnumberedRead}
-use Rattle.far_invariants.specs.Snapshots.{view_at, IsInViews, IsStartOf, IsEarlier, StartsStand, Gathering, gathering, IsLast, JobStands, GatheringStands, SwitchStands, ByDifference, IsSettled, InStep, JobWaits, PacketStands, PartIsTaken, is_start_in, WasDrawn, SnapshotsStand}
+use Rattle.far_invariants.specs.Snapshots.{view_at, IsInViews, IsStartOf, IsEarlier, StartsStand, Gathering, gathering, IsLast, JobStands, GatheringStands, SwitchStands, BaseIs, IsSettled, InStep, JobWaits, PacketStands, PartIsTaken, is_start_in, WasDrawn, SnapshotsStand}
 use Rattle.flight_laws.proofs.SnapBasics.{by_test, map_at}
 use Rattle.flight_laws.proofs.SnapFrame.{IsRest, count_in, start_more, view_more, IsPlainNote, IsFreshNote, AbsorbsFresh, absorbs_plain, noted_more, cover_lasts, last_counted}
 
@@ -103,12 +103,16 @@ module _ (tells : Bool) where
 
 -- ---- the start
 
+-- the base that a start brings, by its kind
+abbrev pub BaseComes : Gathering → ℕ → Bool → Type 0
+BaseComes g base true = (base ≡ g.last.id) × (g.last_epoch ≡ g.epoch) × (0 < base)
+BaseComes g base false = base ≡ 0
+
 module _ {tells : Bool} (plan : PlanView) (s : State) (starts : List SnapshotStart) (h : SnapshotsStand tells plan s starts) (owed : Needs tells plan s) (runs : s.running ≡ true) (rest : List Message) (r : IsRest s.bag rest)
-    (id base : ℕ) (w : JobWaits (gathering s.controller) starts id)
-    (by : (base ≡ 0) ⊎ ((base ≡ s.controller.last.id) × (s.controller.last_epoch ≡ s.controller.epoch) × (0 < base)))
+    (id base : ℕ) (difference : Bool) (w : JobWaits (gathering s.controller) starts id) (by : BaseComes (gathering s.controller) base difference)
     (none : (m : Message) → Among m rest → is_start_in s.controller.epoch m.packet ≡ false) where
   abbrev more : List SnapshotStart
-  more = starts ++ start_of s.switch id ∷ []
+  more = starts ++ start_of s.switch id difference ∷ []
 
   step : InStep tells plan s.switch (gathering s.controller) starts
   step = h.in_step runs
@@ -117,26 +121,26 @@ module _ {tells : Bool} (plan : PlanView) (s : State) (starts : List SnapshotSta
   its_job = h.gathered.job w.job w.under_way
 
   -- each start is an earlier one, or this
-  cases : (start : SnapshotStart) → Among start (starts ++ start_of s.switch id ∷ []) → Among start starts ⊎ (start ≡ start_of s.switch id)
-  cases start a = go (among_append start starts (start_of s.switch id ∷ []) a)
+  cases : (start : SnapshotStart) → Among start (starts ++ start_of s.switch id difference ∷ []) → Among start starts ⊎ (start ≡ start_of s.switch id difference)
+  cases start a = go (among_append start starts (start_of s.switch id difference ∷ []) a)
     where
-      go : Among start starts ⊎ Among start (start_of s.switch id ∷ []) → Among start starts ⊎ (start ≡ start_of s.switch id)
+      go : Among start starts ⊎ Among start (start_of s.switch id difference ∷ []) → Among start starts ⊎ (start ≡ start_of s.switch id difference)
       go (inl b) = inl b
       go (inr (inl e)) = inr e
       go (inr (inr b)) = absurd b
 
-  all_more : (P : SnapshotStart → Type 0) → ((start : SnapshotStart) → Among start starts → P start) → P (start_of s.switch id) → (start : SnapshotStart) → Among start (starts ++ start_of s.switch id ∷ []) → P start
+  all_more : (P : SnapshotStart → Type 0) → ((start : SnapshotStart) → Among start starts → P start) → P (start_of s.switch id difference) → (start : SnapshotStart) → Among start (starts ++ start_of s.switch id difference ∷ []) → P start
   all_more P old its start a = go (cases start a)
     where
-      go : Among start starts ⊎ (start ≡ start_of s.switch id) → P start
+      go : Among start starts ⊎ (start ≡ start_of s.switch id difference) → P start
       go (inl b) = old start b
       go (inr e) = subst P (sym e) its
 
   -- the start of this id is this
-  only : (start : SnapshotStart) → IsStartOf (starts ++ start_of s.switch id ∷ []) id start → start ≡ start_of s.switch id
+  only : (start : SnapshotStart) → IsStartOf (starts ++ start_of s.switch id difference ∷ []) id start → start ≡ start_of s.switch id difference
   only start of = go (cases start of.there)
     where
-      go : Among start starts ⊎ (start ≡ start_of s.switch id) → start ≡ start_of s.switch id
+      go : Among start starts ⊎ (start ≡ start_of s.switch id difference) → start ≡ start_of s.switch id difference
       go (inl b) = absurd (let l = w.newest start b in let is = of.is in omega (arith, l, is))
       go (inr e) = e
 
@@ -147,26 +151,26 @@ module _ {tells : Bool} (plan : PlanView) (s : State) (starts : List SnapshotSta
       go (inl z) = let newer = its_job.newer in let is = w.is in omega (arith, z, newer, is)
       go (inr ne) = let st = h.switch.started (omega (arith, ne)) in let l = w.newest st.start st.of.there in let is = st.of.is in omega (arith, l, is)
 
-  view_is : (i : ℕ) → view_at (start_of s.switch id).views i ≡ held_record (slot_at s.switch i)
+  view_is : (i : ℕ) → view_at (start_of s.switch id difference).views i ≡ held_record (slot_at s.switch i)
   view_is i = map_at held_record s.switch.slots i empty_slot
 
   same_job : (j : Job) → s.controller.job ≡ Some j → w.job ≡ j
   same_job j is = same_Some w.job j (sym w.under_way ∙ is)
 
-  rise_more : StartsStand tells plan (starts ++ start_of s.switch id ∷ []) s.controller.next_id
+  rise_more : StartsStand tells plan (starts ++ start_of s.switch id difference ∷ []) s.controller.next_id
   rise_more = record {
-    order = pairs_append (IsEarlier tells) starts (start_of s.switch id ∷ []) h.rise.order (tt, tt) (λ x y a b. later x y a b);
+    order = pairs_append (IsEarlier tells) starts (start_of s.switch id difference ∷ []) h.rise.order (tt, tt) (λ x y a b. later x y a b);
     above = all_more (λ start. 0 < start.id) h.rise.above (let l = above in omega (arith, l));
     below = all_more (λ start. start.id < s.controller.next_id) h.rise.below (let b = its_job.below in let is = w.is in omega (arith, b, is));
     views = all_more (λ start. length start.views ≡ plan.config.slots) h.rise.views (length-map s.switch.slots held_record ∙ h.switch.slots);
     numbers = λ told. all_more (λ start. (i : ℕ) (r : Record) → view_at start.views i ≡ Some r → r.num ≤ start.counter) (h.rise.numbers told) (λ i r is. owed.within told runs i r (sym (view_is i) ∙ is));
   }
     where
-      later : (x y : SnapshotStart) → Among x starts → Among y (start_of s.switch id ∷ []) → IsEarlier tells x y
+      later : (x y : SnapshotStart) → Among x starts → Among y (start_of s.switch id difference ∷ []) → IsEarlier tells x y
       later x y a (inl e) = subst (IsEarlier tells x) (sym e) (w.newest x a, λ told. step.counted told x a)
       later x y a (inr b) = absurd b
 
-  gathered_more : GatheringStands tells plan (gathering s.controller) (starts ++ start_of s.switch id ∷ [])
+  gathered_more : GatheringStands tells plan (gathering s.controller) (starts ++ start_of s.switch id difference ∷ [])
   gathered_more = record {
     next = h.gathered.next;
     present = h.gathered.present;
@@ -175,19 +179,19 @@ module _ {tells : Bool} (plan : PlanView) (s : State) (starts : List SnapshotSta
       below = k.below;
       newer = k.newer;
       slots = k.slots;
-      begun = λ point b. let p = k.begun point b in (p.0, start_more starts (start_of s.switch id ∷ []) j.id p.0 p.1, p.2);
-      parts = λ i view has. view_more starts (start_of s.switch id ∷ []) j.id i view (k.parts i view has);
+      begun = λ point b. let p = k.begun point b in (p.0, start_more starts (start_of s.switch id difference ∷ []) j.id p.0 p.1, p.2);
+      parts = λ i view has. view_more starts (start_of s.switch id difference ∷ []) j.id i view (k.parts i view has);
     };
   }
     where
-      last : (s.controller.last ≡ no_snapshot) ⊎ IsLast tells starts s.controller.last → (s.controller.last ≡ no_snapshot) ⊎ IsLast tells (starts ++ start_of s.switch id ∷ []) s.controller.last
+      last : (s.controller.last ≡ no_snapshot) ⊎ IsLast tells starts s.controller.last → (s.controller.last ≡ no_snapshot) ⊎ IsLast tells (starts ++ start_of s.switch id difference ∷ []) s.controller.last
       last (inl e) = inl e
-      last (inr l) = inr (record { start = l.start; of = start_more starts (start_of s.switch id ∷ []) s.controller.last.id l.start l.of; point = l.point; same = l.same; views = l.views })
+      last (inr l) = inr (record { start = l.start; of = start_more starts (start_of s.switch id difference ∷ []) s.controller.last.id l.start l.of; point = l.point; same = l.same; views = l.views })
 
   abbrev view : SwitchView
   view = record s.switch { snap = id; base = base }
 
-  switch_more : SwitchStands plan (record s.switch { snap = id; base = base }) (starts ++ start_of s.switch id ∷ [])
+  switch_more : SwitchStands plan (record s.switch { snap = id; base = base }) (starts ++ start_of s.switch id difference ∷ [])
   switch_more = record {
     config = h.switch.config;
     slots = h.switch.slots;
@@ -195,36 +199,36 @@ module _ {tells : Bool} (plan : PlanView) (s : State) (starts : List SnapshotSta
     shown = h.switch.shown;
     bare = h.switch.bare;
     within = λ i. let a = h.switch.within i in let b = above in omega (arith, a, b);
-    started = λ some. record { start = start_of s.switch id; of = record { there = among_append_right (start_of s.switch id) starts (start_of s.switch id ∷ []) (inl refl); is = refl } };
+    started = λ some. record { start = start_of s.switch id difference; of = record { there = among_append_right (start_of s.switch id difference) starts (start_of s.switch id difference ∷ []) (inl refl); is = refl } };
     left = λ start of i u. sym (view_is i) ∙ ap (λ (x : SnapshotStart). view_at x.views i) (sym (only start of));
     marks = λ start i of. marks start i of (cases start of.there);
   }
     where
-      marks : (start : SnapshotStart) (i : ℕ) → IsStartOf (starts ++ start_of s.switch id ∷ []) (taken_at s.switch i) start → Among start starts ⊎ (start ≡ start_of s.switch id) → shown_at s.switch i ≡ mark_of (view_at start.views i)
+      marks : (start : SnapshotStart) (i : ℕ) → IsStartOf (starts ++ start_of s.switch id difference ∷ []) (taken_at s.switch i) start → Among start starts ⊎ (start ≡ start_of s.switch id difference) → shown_at s.switch i ≡ mark_of (view_at start.views i)
       marks start i of (inl b) = h.switch.marks start i (record { there = b; is = of.is })
       marks start i of (inr e) = absurd (let is = of.is in let own : start.id ≡ id = ap (λ (x : SnapshotStart). x.id) e in let a = h.switch.within i in let b = above in omega (arith, is, own, a, b))
 
-  step_more : InStep tells plan (record s.switch { snap = id; base = base }) (gathering s.controller) (starts ++ start_of s.switch id ∷ [])
+  step_more : InStep tells plan (record s.switch { snap = id; base = base }) (gathering s.controller) (starts ++ start_of s.switch id difference ∷ [])
   step_more = record {
     epoch = step.epoch;
     counted = λ told. all_more (λ start. start.counter ≤ s.switch.counter) (step.counted told) (omega arith);
     runs = λ j is start of. record {
       snap = sym w.is ∙ ap (λ (x : Job). x.id) (same_job j is);
-      base = based by;
+      base = subst (λ (x : SnapshotStart). BaseIs plan view (gathering s.controller) x.by_difference) (sym (only start (record { there = of.there; is = of.is ∙ sym (ap (λ (x : Job). x.id) (same_job j is)) ∙ w.is }))) (based difference by);
       parts = λ i view has. let had = (h.gathered.job j is).parts i view has in
           absurd (let l = w.newest had.start had.of.there in let a = had.of.is in let b = w.is in let c = ap (λ (x : Job). x.id) (same_job j is) in omega (arith, l, a, b, c));
     };
-    settled = λ some present settled. absurd (let l = settled w.job w.under_way (start_of s.switch id) (among_append_right (start_of s.switch id) starts (start_of s.switch id ∷ []) (inl refl)) in let is = w.is in omega (arith, l, is));
+    settled = λ some present settled. absurd (let l = settled w.job w.under_way (start_of s.switch id difference) (among_append_right (start_of s.switch id difference) starts (start_of s.switch id difference ∷ []) (inl refl)) in let is = w.is in omega (arith, l, is));
   }
     where
-      based : (base ≡ 0) ⊎ ((base ≡ s.controller.last.id) × (s.controller.last_epoch ≡ s.controller.epoch) × (0 < base)) → (base ≡ 0) ⊎ ByDifference plan (record s.switch { snap = id; base = base }) (gathering s.controller)
-      based (inl e) = inl e
-      based (inr d) =
+      based : (b : Bool) → BaseComes (gathering s.controller) base b → BaseIs plan view (gathering s.controller) b
+      based false e = e
+      based true d =
           let settled : IsSettled (gathering s.controller) starts = (λ j is start a. let l = w.newest start a in let b = w.is in let c = ap (λ (x : Job). x.id) (same_job j is) in omega (arith, l, b, c)) in
           let all = step.settled (let a = d.0 in let b = d.2 in omega (arith, a, b)) d.1 settled in
-          inr (record { base = d.0; present = d.1; untaken = λ i within u. all.taken i within })
+          record { some = d.2; base = d.0; present = d.1; untaken = λ i within u. all.taken i within }
 
-  pub start_stands : (packet : Packet) → Each IsPlainNote (pass_notes packet (starts_snapshot s.switch id base)) → SnapshotsStand tells plan (switch_turn s rest packet (starts_snapshot s.switch id base)) (starts ++ start_of s.switch id ∷ [])
+  pub start_stands : (packet : Packet) → Each IsPlainNote (pass_notes packet (starts_snapshot s.switch id base)) → SnapshotsStand tells plan (switch_turn s rest packet (starts_snapshot s.switch id base)) (starts ++ start_of s.switch id difference ∷ [])
   start_stands packet plain = record {
     rise = rise_more;
     gathered = gathered_more;
@@ -250,10 +254,10 @@ module _ {tells : Bool} (plan : PlanView) (s : State) (starts : List SnapshotSta
       old : (m : Message) → Among m rest → PacketStands tells true (gathering s.controller) starts m.packet
       old m a = subst (λ b. PacketStands tells b (gathering s.controller) starts m.packet) runs (h.packets m (r.among m a))
 
-      packet_of : (m : Message) → Among m rest ⊎ Among m (messages_from Switch (to_party Controller (SnapBegun id s.switch.counter) ∷ [])) → PacketStands tells s.running (gathering s.controller) (starts ++ start_of s.switch id ∷ []) m.packet
-      packet_of m (inl a) = subst (λ b. PacketStands tells b (gathering s.controller) (starts ++ start_of s.switch id ∷ []) m.packet) (sym runs) (started_more tells (gathering s.controller) starts (start_of s.switch id ∷ []) m.packet (none m a) (old m a))
-      packet_of m (inr (inl e)) = subst (λ (x : Message). PacketStands tells s.running (gathering s.controller) (starts ++ start_of s.switch id ∷ []) x.packet) (sym e)
-          (start_of s.switch id, record { there = among_append_right (start_of s.switch id) starts (start_of s.switch id ∷ []) (inl refl); is = refl }, refl)
+      packet_of : (m : Message) → Among m rest ⊎ Among m (messages_from Switch (to_party Controller (SnapBegun id s.switch.counter) ∷ [])) → PacketStands tells s.running (gathering s.controller) (starts ++ start_of s.switch id difference ∷ []) m.packet
+      packet_of m (inl a) = subst (λ b. PacketStands tells b (gathering s.controller) (starts ++ start_of s.switch id difference ∷ []) m.packet) (sym runs) (started_more tells (gathering s.controller) starts (start_of s.switch id difference ∷ []) m.packet (none m a) (old m a))
+      packet_of m (inr (inl e)) = subst (λ (x : Message). PacketStands tells s.running (gathering s.controller) (starts ++ start_of s.switch id difference ∷ []) x.packet) (sym e)
+          (start_of s.switch id difference, record { there = among_append_right (start_of s.switch id difference) starts (start_of s.switch id difference ∷ []) (inl refl); is = refl }, refl)
       packet_of m (inr (inr a)) = absurd a
 
       part_of : (m : Message) → Among m rest ⊎ Among m (messages_from Switch (to_party Controller (SnapBegun id s.switch.counter) ∷ [])) → PartIsTaken (record s.switch { snap = id; base = base }) m.packet
@@ -261,13 +265,13 @@ module _ {tells : Bool} (plan : PlanView) (s : State) (starts : List SnapshotSta
       part_of m (inr (inl e)) = subst (λ (x : Message). PartIsTaken (record s.switch { snap = id; base = base }) x.packet) (sym e) tt
       part_of m (inr (inr a)) = absurd a
 
-      cover : tells ≡ true → (key : List ℕ) (num : ℕ) → IsAbsorbed plan (switch_turn s rest packet (starts_snapshot s.switch id base)).log key num → (start : SnapshotStart) → start ≡ start_of s.switch id → num ≤ start.counter → IsAtServer plan s key num ⊎ IsInViews start.views key num
+      cover : tells ≡ true → (key : List ℕ) (num : ℕ) → IsAbsorbed plan (switch_turn s rest packet (starts_snapshot s.switch id base)).log key num → (start : SnapshotStart) → start ≡ start_of s.switch id difference → num ≤ start.counter → IsAtServer plan s key num ⊎ IsInViews start.views key num
       cover told key num a start e le = subst (λ (x : SnapshotStart). IsAtServer plan s key num ⊎ IsInViews x.views key num) (sym e) (go (fresh key num a))
         where
-          covered : IsAtServer plan s key num ⊎ IsInSlot s key num → IsAtServer plan s key num ⊎ IsInViews (start_of s.switch id).views key num
+          covered : IsAtServer plan s key num ⊎ IsInSlot s key num → IsAtServer plan s key num ⊎ IsInViews (start_of s.switch id difference).views key num
           covered (inl c) = inl c
           covered (inr c) = inr (record { slot = c.slot; item = c.item; holds = view_is c.slot ∙ c.holds; on_key = c.on_key; above = c.above })
 
-          go : IsAbsorbed plan s.log key num ⊎ ((s.running ≡ true) × (s.switch.counter < num)) → IsAtServer plan s key num ⊎ IsInViews (start_of s.switch id).views key num
+          go : IsAbsorbed plan s.log key num ⊎ ((s.running ≡ true) × (s.switch.counter < num)) → IsAtServer plan s key num ⊎ IsInViews (start_of s.switch id difference).views key num
           go (inl b) = covered (owed.cached told runs key num b)
           go (inr b) = absurd (let c : start.counter ≡ s.switch.counter = ap (λ (x : SnapshotStart). x.counter) e in let l = b.1 in omega (arith, c, l, le))

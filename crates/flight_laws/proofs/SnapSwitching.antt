@@ -20,7 +20,7 @@ use Rattle.far_model.specs.State.{State}
 use Rattle.far_model.specs.View.{SlotView, SwitchView, HotCell, slot_at, held_record, mark_of, same_mark, taken_at, shown_at, is_taken}
 use Rattle.far_model.proofs.Members.{among_append}
 use Rattle.far_invariants.specs.SnapshotNeeds.{Needs}
-use Rattle.far_invariants.specs.Snapshots.{view_at, IsStartOf, WasStarted, HadView, Gathering, gathering, IsLast, GatheringStands, SwitchStands, ByDifference, InStep, IsSameView, PacketStands, PartIsTaken, is_start_in, SnapshotsStand}
+use Rattle.far_invariants.specs.Snapshots.{view_at, IsStartOf, WasStarted, HadView, Gathering, gathering, IsLast, GatheringStands, SwitchStands, BaseIs, InStep, IsSameView, PacketStands, PartIsTaken, is_start_in, SnapshotsStand}
 use Rattle.flight_laws.proofs.SnapBasics.{both, by_test, by_case, same_place, set_cases, same_records}
 use Rattle.flight_laws.proofs.SnapFrame.{is_foreign, IsForeignOut, foreign_stands, foreign_part, foreign_start, IsRest, sent_is, news_in, count_in, foreign_count, IsFreshNote, absorbs_fresh, noted_more, covers_last}
 use Rattle.flight_laws.proofs.SnapPasses.{moved, parted, IsStill, PartLeaves, PassIs, Stays, Parts, each_append}
@@ -47,13 +47,13 @@ module _ {tells : Bool} where
   stay_step plan v g starts bound slots hot n more k = record {
     epoch = k.epoch;
     counted = λ told start a. le_trans (k.counted told start a) more;
-    runs = λ j is start of. let r = k.runs j is start of in record { snap = r.snap; base = base r.base; parts = r.parts };
+    runs = λ j is start of. let r = k.runs j is start of in record { snap = r.snap; base = base start.by_difference r.base; parts = r.parts };
     settled = λ some present settled. let r = k.settled some present settled in record { snap = r.snap; taken = r.taken };
   }
     where
-      base : (v.base ≡ 0) ⊎ ByDifference plan v g → (v.base ≡ 0) ⊎ ByDifference plan (moved v bound slots hot n) g
-      base (inl e) = inl e
-      base (inr d) = inr (record { base = d.base; present = d.present; untaken = d.untaken })
+      base : (b : Bool) → BaseIs plan v g b → BaseIs plan (moved v bound slots hot n) g b
+      base false e = e
+      base true d = record { some = d.some; base = d.base; present = d.present; untaken = d.untaken }
 
 -- ---- a pass in which a part leaves
 
@@ -113,16 +113,16 @@ module _ (plan : PlanView) (v : SwitchView) (starts : List SnapshotStart) (k : S
   part_step {tells} g q = record {
     epoch = q.epoch;
     counted = λ told start a. le_trans (q.counted told start a) l.counter;
-    runs = λ j is start of. let r = q.runs j is start of in record { snap = r.snap; base = base r.base; parts = λ p view has. taken_grows p (r.parts p view has) };
+    runs = λ j is start of. let r = q.runs j is start of in record { snap = r.snap; base = base start.by_difference r.base; parts = λ p view has. taken_grows p (r.parts p view has) };
     settled = λ some present settled. let r = q.settled some present settled in
         let taken = r.taken i (let w = l.within in let a = k.slots in omega (arith, w, a)) in
         let yes : is_taken v i ≡ true = eq-eqb _ _ (taken ∙ sym r.snap) in
         absurd (let untaken = l.untaken in let clash : true ≡ false = sym yes ∙ untaken in cc);
   }
     where
-      base : (v.base ≡ 0) ⊎ ByDifference plan v g → (v.base ≡ 0) ⊎ ByDifference plan (parted v i bound slots hot n) g
-      base (inl e) = inl e
-      base (inr d) = inr (record { base = d.base; present = d.present; untaken = λ j within u. let p = still_untaken j u in other_taken j p.0 ∙ d.untaken j within p.1 })
+      base : (b : Bool) → BaseIs plan v g b → BaseIs plan (parted v i bound slots hot n) g b
+      base false e = e
+      base true d = record { some = d.some; base = d.base; present = d.present; untaken = λ j within u. let p = still_untaken j u in other_taken j p.0 ∙ d.untaken j within p.1 }
 
   -- the snapshot has begun
   pub its_start : WasStarted starts v.snap
@@ -157,19 +157,19 @@ module _ (plan : PlanView) (v : SwitchView) (starts : List SnapshotStart) (k : S
           some_base = ltb-true 0 v.base tests.0
 
           some : (j : Job) → g.job ≡ Some j → j.id ≡ v.snap → 0 < g.last.id
-          some j is id = based (q.runs j is its_start.start (record { there = its_start.of.there; is = its_start.of.is ∙ sym id })).base
+          some j is id = based its_start.start.by_difference (q.runs j is its_start.start (record { there = its_start.of.there; is = its_start.of.is ∙ sym id })).base
             where
-              based : (v.base ≡ 0) ⊎ ByDifference plan v g → 0 < g.last.id
-              based (inl zero) = absurd (omega (arith, zero, some_base))
-              based (inr d) = let b = d.base in omega (arith, b, some_base)
+              based : (b : Bool) → BaseIs plan v g b → 0 < g.last.id
+              based false zero = absurd (omega (arith, zero, some_base))
+              based true d = let b = d.base in omega (arith, b, some_base)
 
           held : tells ≡ true → (j : Job) → g.job ≡ Some j → j.id ≡ v.snap → held_record (slot_at v i) ≡ view_at g.last.views i
-          held told j is id = based (q.runs j is its_start.start (record { there = its_start.of.there; is = its_start.of.is ∙ sym id })).base h.last
+          held told j is id = based its_start.start.by_difference (q.runs j is its_start.start (record { there = its_start.of.there; is = its_start.of.is ∙ sym id })).base h.last
             where
-              based : (v.base ≡ 0) ⊎ ByDifference plan v g → (g.last ≡ no_snapshot) ⊎ IsLast tells starts g.last → held_record (slot_at v i) ≡ view_at g.last.views i
-              based (inl zero) last = absurd (omega (arith, zero, some_base))
-              based (inr d) (inl none) = absurd (let z : g.last.id ≡ 0 = ap (λ (w : SnapshotView). w.id) none in let b = d.base in omega (arith, z, b, some_base))
-              based (inr d) (inr last) =
+              based : (b : Bool) → BaseIs plan v g b → (g.last ≡ no_snapshot) ⊎ IsLast tells starts g.last → held_record (slot_at v i) ≡ view_at g.last.views i
+              based false zero last = absurd (omega (arith, zero, some_base))
+              based true d (inl none) = absurd (let z : g.last.id ≡ 0 = ap (λ (w : SnapshotView). w.id) none in let b = d.base in omega (arith, z, b, some_base))
+              based true d (inr last) =
                   let of : IsStartOf starts (taken_at v i) last.start = record { there = last.of.there; is = last.of.is ∙ sym d.base ∙ sym (eqb-true _ _ marked.0) } in
                   let shown : shown_at v i ≡ mark_of (view_at g.last.views i) = k.marks last.start i of ∙ ap (λ views. mark_of (view_at views i)) (sym (last.views told)) in
                   let test : same_mark (mark_of (view_at g.last.views i)) (mark_of (held_record (slot_at v i))) ≡ true = subst (λ w. same_mark w (mark_of (held_record (slot_at v i))) ≡ true) shown marked.1 in

@@ -1,5 +1,5 @@
 -- A switch that was stopped stays stopped until a recovery begins.
-use Rattle.std.proofs.Common.{◌≡◌, ◌≢◌, ◌⊎◌, inl, inr, ℕ, zero, suc, ◌+◌, ◌<◌, ◌≤◌, Bool, true, false, not, ◌&&◌, ◌||◌, cond, List, [], ◌∷◌, ◌++◌, length, refl, sym, ap, ◌∙◌, subst, Some, None, arith}
+use Rattle.std.proofs.Common.{◌≡◌, ◌≢◌, ◌⊎◌, inl, inr, ℕ, suc, ◌+◌, ◌<◌, Bool, true, false, not, ◌&&◌, ◌||◌, cond, List, [], ◌∷◌, ◌++◌, length, refl, sym, ap, ◌∙◌, subst, Some, None, arith}
 use Rattle.std.specs.Prelude.{Option, is_some, nat_eq, nat_lt, slice_get, remove}
 use Rattle.far_base.specs.declared.packet.Out.{Out}
 use Rattle.far_base.specs.declared.log.LogEntry.TheVariants.{Admitted}
@@ -22,9 +22,9 @@ use Rattle.far_base.specs.declared.plan.Order.TheVariants.{Admit as AdmitOrder, 
 use Rattle.far_base.specs.declared.record.Record.{Record}
 use Rattle.far_base.specs.declared.slot_state.Due.TheVariants.{Peeked, Removed}
 use Rattle.far_base.specs.declared.slot_state.SlotState.TheVariants.{Held}
-use Rattle.far_model.specs.Controller.{ControllerState, acknowledged, client_told, controller_takes, drop_want_if, evict_held, evict_key, evicts_on, first_want_dropped, job_turn, acked_state, admits_want, completes, makes_room, part_came, peek_answered, ready, ready_in, removal_answered, restarted, round_stored, round_turn, same_came, same_part, snapshot_begun, start_snapshot, store_answered, tick, tick_free, tick_room, tick_want, tick_wants, top_told, wanted, with_state}
+use Rattle.far_model.specs.Controller.{ControllerState, acknowledged, client_told, controller_takes, drop_want_if, evict_held, evicts_on, first_want_dropped, job_turn, acked_state, admits_want, completes, makes_room, part_came, peek_answered, ready, ready_in, removal_answered, round_stored, same_came, same_part, snapshot_begun, store_answered, tick, tick_free, tick_room, tick_want, tick_wants, top_told, wanted, with_state}
 use Rattle.far_model.specs.Evictions.{Eviction, Next, Send as SendNext, Store as StoreNext, Done, Kept, after_peek, after_removal, after_store, removing, key_in, first_place, has_key, holds_key, is_admitting, is_free, state_at, victim, waits_for, waits_job}
-use Rattle.far_model.specs.Events.{Keeping, client_turn, controller_turn, delivers, does_order, handled, happens_with, is_enabled, is_order_due, is_order_enabled, restarts, stops, ticks}
+use Rattle.far_model.specs.Events.{Keeping, delivers, does_order, handled, happens_with, is_enabled, is_order_due, is_order_enabled, restarts, ticks}
 use Rattle.far_model.specs.Members.{Each}
 use Rattle.far_model.specs.Parties.{Turn, idle, to_party}
 use Rattle.far_model.specs.Replies.{IsRunWith, KeptEvent, ceiling_after, run_with}

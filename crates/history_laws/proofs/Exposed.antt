@@ -3,13 +3,12 @@ use Rattle.std.proofs.Common.{◌≡◌, ℕ, zero, suc, ◌<◌, ◌≤◌, max
 use Rattle.std.specs.Prelude.{Option, Some, if◌then◌else◌, nat_le}
 use Rattle.std.proofs.Math.Nat.{le-max_left, le-max_right}
 use Rattle.std.proofs.lemmas.Bool.Decides.{leb_tells}
-use Rattle.std.specs.Cmp.Lexicographic.{bytes_decides}
 use Rattle.far_base.specs.declared.log.LogLine.{LogLine}
 use Rattle.far_base.specs.declared.log.LogEntry.{LogEntry}
 use Rattle.far_base.specs.declared.log.LogEntry.TheVariants.{Emitted}
 use Rattle.far_model.specs.Members.{Among}
-use Rattle.far_invariants.proofs.Keys.{same_key_refl, same_key_true}
-use Rattle.far_model.specs.Log.{At, same_key, is_on, sending, exposed, IsTakingMoment, number_exposed, greatest_exposed}
+use Rattle.far_invariants.proofs.Keys.{same_key_refl}
+use Rattle.far_model.specs.Log.{At, is_on, sending, exposed, IsTakingMoment, number_exposed, greatest_exposed}
 
 -- a line that shows a number of the key by the moment
 pub record Shows (log : List LogLine) (key : List ℕ) (moment num : ℕ) : Type 0 where

@@ -197,11 +197,11 @@ module _ (log : List LogLine) (coherent : IsCoherent log) where
           let taken : rx.taken_at ≤ rx.emitted.moment = rx.taking.first rx.emitted.moment (omega (arith, rx.answer, emission_shows log coherent x.op rx.emitted rx.sent rx.emitted_first rx.first)) in
           omega (arith, at, taken, rx.before, rx.moment)
 
-  placed_by : (x : Placed) (a : At ℕ) → IsPlace log x → answering log x.op ≡ Some a → x.moment ≤ a.moment
+  pub placed_by : (x : Placed) (a : At ℕ) → IsPlace log x → answering log x.op ≡ Some a → x.moment ≤ a.moment
   placed_by x a h k = let e = answers log coherent x.op a k in le_trans (placed_by_answer x e.0 h e.1) e.2
 
   -- and none before it was sent
-  placed_from : (y : Placed) (s : At OpLine) → IsPlace log y → sending log y.op ≡ Some s → s.moment ≤ y.moment
+  pub placed_from : (y : Placed) (s : At OpLine) → IsPlace log y → sending log y.op ≡ Some s → s.moment ≤ y.moment
   placed_from y s h k = go y.read refl
     where
       go : (r : Bool) → y.read ≡ r → s.moment ≤ y.moment

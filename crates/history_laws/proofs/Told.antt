@@ -1,5 +1,5 @@
 -- The first line that tells something, and the line that an operation has.
-use Rattle.std.proofs.Common.{◌≡◌, ℕ, inl, inr, Bool, true, false, List, [], ◌∷◌, refl, sym, subst, eq-eqb, eqb-true}
+use Rattle.std.proofs.Common.{◌≡◌, ℕ, inl, inr, Bool, true, false, List, [], ◌∷◌, refl, sym, ◌∙◌, subst, eq-eqb, eqb-true}
 use Rattle.std.specs.Prelude.{Option, Some, None, ◌==◌, if◌then◌else◌}
 use Rattle.std.proofs.lemmas.Option.{same_Some}
 use Rattle.far_base.specs.declared.plan.OpLine.{OpLine}
@@ -60,6 +60,14 @@ emitted_entry op _ x h = absurd cc
 answered_entry : (op : ℕ) (e : LogEntry) (x : ℕ) → answered_by op e ≡ Some x → e ≡ Answered op
 answered_entry op (Answered other) x h = let c = chosen (other == op) other x h in λ i. Answered (eqb-true other op c.0 i)
 answered_entry op _ x h = absurd cc
+
+answered_number : (op : ℕ) (e : LogEntry) (x : ℕ) → answered_by op e ≡ Some x → x ≡ op
+answered_number op (Answered other) x h = let c = chosen (other == op) other x h in sym c.1 ∙ eqb-true other op c.0
+answered_number op _ x h = absurd cc
+
+-- what an answering line tells is its operation
+pub answering_what : (log : List LogLine) (op : ℕ) (a : At ℕ) → answering log op ≡ Some a → a.what ≡ op
+answering_what log op a h = let t = told_line (answered_by op) log a h in answered_number op t.entry a.what t.told
 
 pub sending_line : (log : List LogLine) (op : ℕ) (s : At OpLine) → sending log op ≡ Some s → Among (record { moment = s.moment; entry = Sent op s.what }) log
 sending_line log op s h =

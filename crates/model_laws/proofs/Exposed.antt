@@ -1,17 +1,12 @@
 -- The exposed number is the least bound of all answers.
-use Rattle.std.proofs.Common.{◌≡◌, ℕ, zero, suc, ◌<◌, ◌≤◌, max, ◌⊎◌, inl, inr, Bool, true, false, List, [], ◌∷◌, refl, sym, ◌∙◌, subst, arith, le-leb, leb-true, le_trans}
-use Rattle.std.specs.Prelude.{Option, Some, None, if◌then◌else◌, nat_le}
-use Rattle.std.proofs.Math.Nat.{le-max_left, le-max_right}
+use Rattle.std.proofs.Common.{◌≡◌, ℕ, ◌<◌, ◌≤◌, ◌⊎◌, inl, inr, true, false, List, refl, arith, le_trans}
+use Rattle.std.specs.Prelude.{Option, Some, None, nat_le}
 use Rattle.std.proofs.lemmas.Bool.Decides.{leb_tells}
-use Rattle.std.specs.Cmp.Lexicographic.{bytes_decides}
 use Rattle.far_base.specs.declared.log.LogLine.{LogLine}
-use Rattle.far_base.specs.declared.log.LogEntry.{LogEntry}
-use Rattle.far_base.specs.declared.log.LogEntry.TheVariants.{Emitted}
-use Rattle.far_model.specs.Members.{Among}
 use Rattle.far_invariants.proofs.Keys.{same_key_true}
 use Rattle.history_laws.proofs.Exposed.{exposed_most, exposed_shown}
 use Rattle.model_laws.specs.Answers.{AnswersAreAtMost}
-use Rattle.far_model.specs.Log.{At, same_key, sent_on, is_on, sending, exposed, IsTakingMoment, number_exposed, greatest_exposed}
+use Rattle.far_model.specs.Log.{At, sent_on, is_on, sending, exposed}
 
 -- whether an operation is on a key, by its sending
 pub on_true : (log : List LogLine) (key : List ℕ) (op : ℕ) → is_on log key op ≡ true → (s : At _) × (sending log op ≡ Some s) × (key ≡ s.what.key)

@@ -1,36 +1,8 @@
 -- The order of places and of keys is strict, and an operation has one place.
-use Rattle.std.proofs.Common.{
-  ◌≡◌,
-  ℕ,
-  ◌<◌,
-  max,
-  ◌⊎◌,
-  inl,
-  inr,
-  Bool,
-  true,
-  false,
-  List,
-  refl,
-  sym,
-  ap,
-  ◌∙◌,
-  subst,
-  arith,
-}
-use Rattle.std.specs.Ordering.{nat_cmp, ordering_reverse}
-use Rattle.std.specs.Cmp.Lexicographic.{slice_cmp}
-use Rattle.std.specs.declared.cmp.Ordering.TheVariants.{Less, Greater}
-use Rattle.std.proofs.lemmas.Bool.{MatchBool-at_true, MatchBool-at_false, cases_order}
-use Rattle.std.proofs.lemmas.Cmp.{nat_list_cmp_total}
-use Rattle.std.proofs.lemmas.Option.{same_Some}
-use Rattle.far_base.specs.declared.plan.OpLine.{OpLine}
-use Rattle.far_base.specs.declared.record.Record.{Record}
-use Rattle.far_base.specs.declared.log.LogLine.{LogLine}
+use Rattle.std.proofs.Common.{◌≡◌, ◌<◌, ◌⊎◌, inl, inr, Bool, true, false, refl, sym, arith}
+use Rattle.std.proofs.lemmas.Bool.{cases_order}
 use Rattle.far_base.specs.declared.log.Placed.{Placed}
-use Rattle.far_model.specs.Log.{At, Answer, is_read, sending, numbering, emission, IsTakingMoment}
-use Rattle.far_model.specs.History.{Before, IsWritePlace, IsReadPlace, IsPlace, IsHistory, IsKeyBefore, read_rank}
-use Rattle.far_model.proofs.Members.{pairs_unique}
+use Rattle.far_model.specs.History.{Before, read_rank}
 
 rank_same : (p q : Bool) → read_rank p ≡ read_rank q → p ≡ q
 rank_same true true e = refl

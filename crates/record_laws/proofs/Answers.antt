@@ -114,9 +114,9 @@ stays_latest tag num slot h l = go (ltb_tells slot.num num) (sym (ap (λ b. if b
     go (inr p) k = record { latest = l; as_new = p.1 }
 
 module _ (plan : PlanView) (s : State) (k : OperationsStand plan s) (runs : s.running ≡ true) (rest : List Message) (caller op : ℕ) (key : List ℕ) (others : AreOthers (Its op) s rest)
-    (tag : Option ℕ) (num : ℕ) (body shown : Option (List ℕ)) (near : Bool) (h : ReplyIs plan s caller op key tag num body shown) where
+    (tag : Option ℕ) (num : ℕ) (body shown : Option (List ℕ)) (h : ReplyIs plan s caller op key tag num body shown) where
   abbrev note : List LogEntry
-  note = Emitted op num shown near ∷ []
+  note = Emitted op num shown false ∷ []
 
   off : (other : List ℕ) → other ≢ key → Each (NotOn plan other) note
   off other ne = (λ q. ne (sym q ∙ h.serves.on_key), tt)
@@ -199,7 +199,7 @@ module _ (plan : PlanView) (s : State) (k : OperationsStand plan s) (runs : s.ru
       let t : State = passed_state s rest packet p note in
       pass_keeps plan (Its op) s rest packet p note key k f others none admits
       (λ g. (
-        (flies t (answering plan s k runs rest caller op key others t note num shown near g (inl refl) (λ x. x, tt) h.serves), none),
+        (flies t (answering plan s k runs rest caller op key others t note num shown false g (inl refl) (λ x. x, tt) h.serves), none),
         goes t,
         (
           record {
@@ -213,7 +213,7 @@ module _ (plan : PlanView) (s : State) (k : OperationsStand plan s) (runs : s.ru
               same = h.same;
               floor = λ read. shown_by_lasts s t note refl plan key h.serves.sent.sent_at num h.serves.sent.before (h.floor read);
               own = λ write. has_own_lasts plan (Its op) note s t g s.steps (now s) op num (omega arith) (h.own write);
-              stored = λ write. inr h.known;
+              stored = λ write. h.known;
             };
             about = λ o n. n;
           },

@@ -96,7 +96,7 @@ was_written plan s k moment key num body h =
       same_body = h.same_body;
     }
 
-emission : (plan : PlanView) (s : State) → OperationsStand plan s → (moment op num : ℕ) (body : Option (List ℕ)) (near : Bool) → AnswerStands plan s moment op num body near → IsEmission s.log moment op num body
+emission : (plan : PlanView) (s : State) → OperationsStand plan s → (moment op num : ℕ) (body : Option (List ℕ)) (near : Bool) → AnswerStands plan s moment op (record { num = num; body = body; near = near }) → IsEmission s.log moment op num body
 emission plan s k moment op num body near h = record {
   sent = record { sent_at = h.sent.sent_at; line = line_of plan.ops op; sent = h.sent.sent; before = h.sent.before };
   source = λ above. (h.written, subst (λ key. WasWritten s.log moment key num h.written) (sym h.on_key) (was_written plan s k moment h.key num h.written (h.source.some above)), h.same);

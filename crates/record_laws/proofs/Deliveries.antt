@@ -105,7 +105,7 @@ module _ (plan : PlanView) (s : State) (k : OperationsStand plan s) (one : OneFl
       subst (λ w. OperationsStand plan (handled plan (record { reply = reply_at s w (GetRep caller op key tag num body); records = records }) s (remove s.bag i) w (GetRep caller op key tag num body))) (sym goes)
       (subst (λ notes. OperationsStand plan (passed_state s (remove s.bag i) (GetRep caller op key tag num body) (reply_passes s.switch (Some tag) num body (sent_to (Client caller) (GetAns caller op key num body false)) (entry_place key s.switch)) notes))
       (sym (ap emitted_notes (reply_first s.switch (Some tag) num body (sent_to (Client caller) (GetAns caller op key num body false)) (entry_place key s.switch))))
-      (reply_keeps plan s k (runs_to s.running to can goes) (remove s.bag i) caller op key (rest_others plan s k one i _ caller op key at refl h.serves) (Some tag) num body body false
+      (reply_keeps plan s k (runs_to s.running to can goes) (remove s.bag i) caller op key (rest_others plan s k one i _ caller op key at refl h.serves) (Some tag) num body body
       (read_reply plan s caller op key tag num body h) (GetRep caller op key tag num body) (GetAns caller op key num body false) (λ t f. f) (λ t. tt)))
   operation_keeps from to (WriteRep caller op key num body) at can is =
       let a = among_at _ s.bag i at in
@@ -114,7 +114,7 @@ module _ (plan : PlanView) (s : State) (k : OperationsStand plan s) (one : OneFl
       subst (λ w. OperationsStand plan (handled plan (record { reply = reply_at s w (WriteRep caller op key num body); records = records }) s (remove s.bag i) w (WriteRep caller op key num body))) (sym goes)
       (subst (λ notes. OperationsStand plan (passed_state s (remove s.bag i) (WriteRep caller op key num body) (reply_passes s.switch None num body (sent_to (Client caller) (WriteAns caller op key num false)) (entry_place key s.switch)) notes))
       (sym (ap emitted_notes (reply_first s.switch None num body (sent_to (Client caller) (WriteAns caller op key num false)) (entry_place key s.switch))))
-      (reply_keeps plan s k (runs_to s.running to can goes) (remove s.bag i) caller op key (rest_others plan s k one i _ caller op key at refl h.serves) None num body None false
+      (reply_keeps plan s k (runs_to s.running to can goes) (remove s.bag i) caller op key (rest_others plan s k one i _ caller op key at refl h.serves) None num body None
       (write_reply plan s caller op key num body h) (WriteRep caller op key num body) (WriteAns caller op key num false) (λ t f. f) (λ t. tt)))
   operation_keeps from to (GetAns caller op key num body near) at can is =
       let a = among_at _ s.bag i at in

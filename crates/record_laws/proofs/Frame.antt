@@ -5,7 +5,8 @@ use Rattle.far_invariants.specs.Covers.{look}
 use Rattle.far_invariants.specs.Operations.{SendsOp, NumbersOp, EmitsOp, AnswersOp, Absent, IsSent, LineStands, LineIs, IsDrawn, IsTagged, ServesOp, Relies, LeftIs, OperationsStand}
 use Rattle.far_invariants.proofs.Noted.{IsNote, member, log_cases}
 use Rattle.flight_laws.proofs.Lists.{each_map}
-use Rattle.std.proofs.Common.{◌≡◌, ◌≢◌, ℕ, ◌<◌, ◌≤◌, ◌⊎◌, inl, inr, Bool, true, List, map, refl, sym, ap, subst, arith, le_trans}
+use Rattle.std.proofs.Common.{◌≡◌, ◌≢◌, ℕ, ◌<◌, ◌≤◌, ◌⊎◌, inl, inr, Bool, true, false, List, map, refl, sym, ap, subst, arith, le_trans}
+use Rattle.std.specs.Bool.{MatchBool}
 use Rattle.std.specs.Prelude.{Option}
 use Rattle.far_base.specs.PlanView.{PlanView}
 use Rattle.far_base.specs.declared.log.LogEntry.{LogEntry}
@@ -138,9 +139,10 @@ module _ (plan : PlanView) (Mine : ℕ → Type 0) (notes : List LogEntry) (s t 
   pub past : s.steps ≤ t.steps
   past = let e = g.steps in omega arith
 
-  stored_lasts : (moment op num : ℕ) (near : Bool) (key : List ℕ) → ((near ≡ true) × IsOwnNumber s.log moment op num) ⊎ (num ≤ (look plan s key).num) → ((near ≡ true) × IsOwnNumber t.log moment op num) ⊎ (num ≤ (look plan t key).num)
-  stored_lasts moment op num near key (inl p) = inl (p.0, own_lasts moment moment op num (omega arith) p.1)
-  stored_lasts moment op num near key (inr b) = inr (le_trans b (g.more key))
+  stored_lasts : (moment op num : ℕ) (near : Bool) (key : List ℕ) → MatchBool near (IsOwnNumber s.log moment op num) (num ≤ (look plan s key).num)
+      → MatchBool near (IsOwnNumber t.log moment op num) (num ≤ (look plan t key).num)
+  stored_lasts moment op num true key own = own_lasts moment moment op num (omega arith) own
+  stored_lasts moment op num false key b = le_trans b (g.more key)
 
   -- a line stands as it stood
   line_lasts : (moment : ℕ) (entry : LogEntry) → Among (line_at moment entry) s.log → moment ≤ s.steps → LineStands plan s moment entry → LineStands plan t moment entry

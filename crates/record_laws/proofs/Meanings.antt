@@ -2,8 +2,9 @@
 use Rattle.far_invariants.specs.Logs.{SendsByPlan, IsAnsweredInFull, ClosedAreAnswered, AnswersAreCurrent, LogIsSound}
 use Rattle.far_invariants.specs.Numbers.{ExposedAtMostBy, ExposedAtMost, entry, NumbersDiffer, IsServed, IsForwardOf, IsForwarded, NumbersArrive, SeesFloor, CarriesWritten, HasNoLatest, ServerIsCurrent, LatestIsCurrent, IsTaggedCurrent, NumbersAreSound}
 use Rattle.far_invariants.specs.Operations.{IsSent, Relies, IsOpenOrAnswered, OperationsStand}
-use Rattle.far_invariants.specs.Covers.{IsAnsweredNear, look}
+use Rattle.far_invariants.specs.Covers.{IsAbsorbed, IsAnsweredNear, IsMarkedNear, IsWriteMarkedNear, look}
 use Rattle.std.proofs.Common.{◌≡◌, ℕ, ◌+◌, ◌<◌, ◌≤◌, ◌⊎◌, inl, inr, Bool, true, false, cond, List, [], ◌∷◌, refl, sym, ap, ◌∙◌, subst, arith, le_trans, eqb-true}
+use Rattle.std.specs.Bool.{MatchBool}
 use Rattle.std.specs.Prelude.{Option, Some, None}
 use Rattle.std.specs.List.{count_by}
 use Rattle.std.proofs.lemmas.List.Sums.{sum_by-cons}
@@ -137,6 +138,25 @@ module _ (plan : PlanView) (s : State) (k : OperationsStand plan s) where
       let o = of_client c (subject m.0.packet) m.2 in
       record { message = m.0; among = m.1; caller = o.0; op = o.1; is = o.2; same = o.3 }
 
+  -- a write has an answer of the switch's own only under its own number
+  marked_is_near : (at op num : ℕ) → Among (line_at at (Numbered op num)) s.log → IsMarkedNear s.log op → IsAnsweredNear s.log op num
+  marked_is_near at op num a m =
+      let own : IsOwnNumber s.log m.emitted_at op m.num = ((k.lines _ m.emitted).stands).stored ((k.lines _ a).stands).write in
+      let same : m.num ≡ num = numbered_once _ _ op _ _ own.numbered a in
+      record { emitted_at = m.emitted_at; body = m.body; emitted = subst (λ n. Among (line_at m.emitted_at (Emitted op n m.body true)) s.log) same m.emitted }
+
+  pub marked_is_absorbed : (key : List ℕ) (num : ℕ) → IsWriteMarkedNear plan s.log key num → IsAbsorbed plan s.log key num
+  marked_is_absorbed key num w = record { op = w.op; on_key = w.on_key; numbered_at = w.numbered_at; numbered = w.numbered; absorbed = marked_is_near w.numbered_at w.op num w.numbered w.marked }
+
+  pub absorbed_is_marked : (key : List ℕ) (num : ℕ) → IsAbsorbed plan s.log key num → IsWriteMarkedNear plan s.log key num
+  absorbed_is_marked key num w = record {
+    op = w.op;
+    on_key = w.on_key;
+    numbered_at = w.numbered_at;
+    numbered = w.numbered;
+    marked = record { emitted_at = w.absorbed.emitted_at; num = num; body = w.absorbed.body; emitted = w.absorbed.emitted };
+  }
+
   abbrev Arrives : ℕ → ℕ → Type 0
   Arrives op num = IsAnsweredNear s.log op num ⊎ ((num ≤ (look plan s (line_of plan.ops op).key).num) ⊎ IsForwarded s op num)
 
@@ -144,13 +164,14 @@ module _ (plan : PlanView) (s : State) (k : OperationsStand plan s) where
   emitted_arrives at op num moment a h =
       let e = (k.lines _ h.emitted).stands in
       let write = ((k.lines _ a).stands).write in
-      go e.key e.on_key (e.own write) (e.stored write)
+      go e.key e.on_key (e.own write) h.near (e.stored write) h.emitted
     where
-      go : (key : List ℕ) → (line_of plan.ops op).key ≡ key → ReachesOwnNumber s.log h.emitted_at op h.num → ((h.near ≡ true) × IsOwnNumber s.log h.emitted_at op h.num) ⊎ (h.num ≤ (look plan s key).num) → Arrives op num
-      go key on own (inl p) =
-          let same : h.num ≡ num = numbered_once _ _ op _ _ p.1.numbered a in
-          inl (record { emitted_at = h.emitted_at; body = h.body; emitted = subst (λ n. Among (line_at h.emitted_at (Emitted op n h.body true)) s.log) same (subst (λ b. Among (line_at h.emitted_at (Emitted op h.num h.body b)) s.log) p.0 h.emitted) })
-      go key on own (inr b) =
+      go : (key : List ℕ) → (line_of plan.ops op).key ≡ key → ReachesOwnNumber s.log h.emitted_at op h.num → (near : Bool) → MatchBool near (IsOwnNumber s.log h.emitted_at op h.num) (h.num ≤ (look plan s key).num)
+          → Among (line_at h.emitted_at (Emitted op h.num h.body near)) s.log → Arrives op num
+      go key on own true p there =
+          let same : h.num ≡ num = numbered_once _ _ op _ _ p.numbered a in
+          inl (record { emitted_at = h.emitted_at; body = h.body; emitted = subst (λ n. Among (line_at h.emitted_at (Emitted op n h.body true)) s.log) same there })
+      go key on own false b there =
           let same : own.own ≡ num = numbered_once _ _ op _ _ own.is.numbered a in
           let within = own.within in
           inr (inl (subst (λ q. num ≤ (look plan s q).num) (sym on) (omega (arith, same, within, b))))

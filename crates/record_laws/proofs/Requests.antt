@@ -269,7 +269,7 @@ module _ (plan : PlanView) (s : State) (k : OperationsStand plan s) (runs : s.ru
                 same = λ read. absurd (let e = sym h.write ∙ read in cc);
                 floor = λ read. absurd (let e = sym h.write ∙ read in cc);
                 own = λ write. record { own = w.counter; is = own_now t (write_notes w) w.counter refl (inl refl); within = omega arith };
-                stored = λ write. inl (refl, own_now t (write_notes w) w.counter refl (inl refl));
+                stored = λ write. own_now t (write_notes w) w.counter refl (inl refl);
               };
               about = λ o n. n;
             },

@@ -42,7 +42,7 @@ use Rattle.record_laws.proofs.Scripts.{send_keeps}
 use Rattle.record_laws.proofs.Seats.{is_admission_packet}
 use Rattle.record_laws.proofs.Slots.{both}
 use Rattle.record_laws.proofs.Snapshots.{want_dropped_calm, wanted_calm, start_calm, begun_calm, part_calm, same_calm, snap_start_calm, snap_from_calm, snap_read_calm, release_calm}
-use Rattle.far_invariants.specs.Evictions.{RemoveAnsIs, written_in}
+use Rattle.far_invariants.specs.Evictions.{RemoveAnsIs, slot_answer, written_in}
 use Rattle.eviction_laws.proofs.Beginning.{begun_keeps, key_held, victim_held}
 use Rattle.eviction_laws.proofs.Calming.{wanted_apart, begun_apart, part_apart, same_apart_job}
 use Rattle.eviction_laws.proofs.Looking.{peek_keeps}
@@ -71,7 +71,7 @@ removal_keeps plan s h need i from to j tag done latest num body at =
     Turned : Turn ControllerState → Type 0
     Turned t = OperationsStand plan (controller_turn s (remove s.bag i) t)
 
-    q : RemoveAnsIs plan (written_in plan) s j tag done num body
+    q : RemoveAnsIs (written_in plan) s done (slot_answer j tag latest num body)
     q = need.evictions.packets _ (among_at _ s.bag i at)
 
     e : Eviction

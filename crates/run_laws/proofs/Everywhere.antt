@@ -98,7 +98,11 @@ module _ (plan : PlanView) (kept : List Record) (starts : List SnapshotStart) (s
   packet_written (GetAns caller op key num body near) c a w e g q = a
   packet_written (WriteAns caller op key num kept) c a w e g q = λ k. taken_written op num (w k)
   packet_written (PeekAns i tag latest num body) c a w e g q = λ x is l. subst (λ (y : Eviction). IsWritten plan s.log s.steps y.key num body) (same_Some e.awaits.eviction x (sym e.awaits.is ∙ is)) (e.written l)
-  packet_written (RemoveAns i tag done latest num body) c a w e g q = λ x is d. subst (λ (y : Eviction). IsWritten plan s.log s.steps y.key num body) (same_Some e.awaits.eviction x (sym e.awaits.is ∙ is)) (e.written d)
+  packet_written (RemoveAns i tag done latest num body) c a w e g q = λ x is d. subst (λ (y : Eviction). IsWritten plan s.log s.steps y.key num body) (same_Some e.awaits.eviction x (sym e.awaits.is ∙ is)) (either d)
+    where
+      either : (done ≡ false) ⊎ (latest ≡ true) → IsWritten plan s.log s.steps e.awaits.eviction.key num body
+      either (inl off) = e.written off
+      either (inr on) = e.shown on
   packet_written (SnapPart id i view) c a w e g q = had_written id i view q
   packet_written (Store job item) c a w e g q = e.written
   packet_written (Told round caller total item) c a w e g q = told_written round caller total item g

@@ -10,6 +10,7 @@ pub mod FirstRestart
 pub mod Holding
 pub mod Kept
 pub mod KeptItems
+pub mod Linearizable
 pub mod Meeting
 pub mod Moving
 pub mod Needing
@@ -24,5 +25,6 @@ pub mod Showing
 pub mod ShownEvents
 pub mod Steps
 pub mod Stopping
+pub mod Telling
 pub mod Turning
 pub mod Whole

@@ -94,17 +94,17 @@ held_among (x ∷ xs) r a = go (held_record x) refl a (λ b. held_among xs r b)
     go (Some y) e (inr b) more = let p = more b in (suc p.0, p.1)
 
 module _ (plan : PlanView) (s : State) (slots : (i : ℕ) (r : Record) → held_record (slot_at s.switch i) ≡ Some r → IsWritten plan s.log s.steps r.key r.num r.body) where
-  new_start : (id : ℕ) (r : Record) → Among r (view_records (start_of s.switch id).views) → IsWritten plan s.log s.steps r.key r.num r.body
-  new_start id r a = let p = held_among s.switch.slots r a in slots p.0 r p.1
+  new_start : (id : ℕ) (difference : Bool) (r : Record) → Among r (view_records (start_of s.switch id difference).views) → IsWritten plan s.log s.steps r.key r.num r.body
+  new_start id difference r a = let p = held_among s.switch.slots r a in slots p.0 r p.1
 
-  tested_start : (b : Bool) (id : ℕ) (start : SnapshotStart) → Among start (if b then start_of s.switch id ∷ [] else []) → (r : Record) → Among r (view_records start.views) → IsWritten plan s.log s.steps r.key r.num r.body
-  tested_start true id start (inl e) r a = new_start id r (subst (λ (x : SnapshotStart). Among r (view_records x.views)) e a)
-  tested_start true id start (inr a) r b = absurd a
-  tested_start false id start a r b = absurd a
+  tested_start : (b : Bool) (id : ℕ) (difference : Bool) (start : SnapshotStart) → Among start (if b then start_of s.switch id difference ∷ [] else []) → (r : Record) → Among r (view_records start.views) → IsWritten plan s.log s.steps r.key r.num r.body
+  tested_start true id difference start (inl e) r a = new_start id difference r (subst (λ (x : SnapshotStart). Among r (view_records x.views)) e a)
+  tested_start true id difference start (inr a) r b = absurd a
+  tested_start false id difference start a r b = absurd a
 
   by_packet : (to : Party) (p : Packet) (start : SnapshotStart) → Among start (starts_by s.switch to p) → (r : Record) → Among r (view_records start.views) → IsWritten plan s.log s.steps r.key r.num r.body
-  by_packet Switch (SnapStart epoch id) start a r b = tested_start (nat_eq epoch s.switch.epoch) id start a r b
-  by_packet Switch (SnapFrom epoch id base) start a r b = tested_start (nat_eq epoch s.switch.epoch) id start a r b
+  by_packet Switch (SnapStart epoch id) start a r b = tested_start (nat_eq epoch s.switch.epoch) id false start a r b
+  by_packet Switch (SnapFrom epoch id base) start a r b = tested_start (nat_eq epoch s.switch.epoch) id true start a r b
   by_packet to p start a r b = absurd a
 
   by_event : (e : Event) (start : SnapshotStart) → Among start (new_starts s e) → (r : Record) → Among r (view_records start.views) → IsWritten plan s.log s.steps r.key r.num r.body

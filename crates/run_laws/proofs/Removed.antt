@@ -115,10 +115,14 @@ module _ (plan : PlanView) (past : Past) (s : State) (valid : IsPlan plan) (h : 
       let is : d ≡ x = same_drawing d x a drawn.there same in
       let more = moves.more drawn.key in
       subst (λ (w : DrawnTag). num ≤ (Rattle.far_invariants.specs.Covers.look plan t w.key).num) (sym is) (omega (arith, q, more))
-  old_packet (Stored job) drawn p low = λ g a same. go g same (old_or_new g a)
+  old_packet (Stored job) drawn p low = record {
+    item = p.item;
+    there = among_append_left (given job p.item) stores (stores_in t.bag) p.there;
+    covered = λ g a same. go g same (old_or_new g a);
+  }
     where
       go : (g : GivenStore) → g.job ≡ job → OldOrNew g → g.item.num ≤ (Rattle.far_invariants.specs.Covers.look plan t g.item.key).num
-      go g same (IsOld b) = let q = p g b same in let more = moves.more g.item.key in omega (arith, q, more)
+      go g same (IsOld b) = let q = p.covered g b same in let more = moves.more g.item.key in omega (arith, q, more)
       go g same (IsNewJob m b is from below) = absurd (let l = low job refl in omega (arith, l, same, from))
   old_packet _ drawn p low = tt
 
@@ -127,10 +131,14 @@ module _ (plan : PlanView) (past : Past) (s : State) (valid : IsPlan plan) (h : 
       let q = n on in
       let is : d ≡ drawing tag q.key q.slot q.epoch = same_drawing d (drawing tag q.key q.slot q.epoch) a q.was same in
       subst (λ (w : DrawnTag). num ≤ (Rattle.far_invariants.specs.Covers.look plan t w.key).num) (sym is) q.covered
-  new_packet (Stored job) n = λ g a same.
-      let was : Among (given job n.item) more_stores = among_append_left (given job n.item) stores (stores_in t.bag) (v.flying n.message n.there job n.item n.is) in
-      let is : g.item ≡ n.item = one_after g (given job n.item) a was same in
-      subst (λ (r : Record). r.num ≤ (Rattle.far_invariants.specs.Covers.look plan t r.key).num) (sym is) n.covered
+  new_packet (Stored job) n = record {
+    item = n.item;
+    there = was;
+    covered = λ g a same. subst (λ (r : Record). r.num ≤ (Rattle.far_invariants.specs.Covers.look plan t r.key).num) (sym (one_after g (given job n.item) a was same)) n.covered;
+  }
+    where
+      was : Among (given job n.item) more_stores
+      was = among_append_left (given job n.item) stores (stores_in t.bag) (v.flying n.message n.there job n.item n.is)
   new_packet _ n = tt
 
   stands_after : Stands plan more_drawn more_stores t

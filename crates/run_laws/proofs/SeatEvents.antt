@@ -37,7 +37,7 @@ use Rattle.record_laws.proofs.Deliveries.{runs_to}
 use Rattle.record_laws.proofs.Seats.{is_admission_packet, bag_grown, bag_taken}
 use Rattle.record_laws.proofs.Slots.{both}
 use Rattle.record_laws.proofs.Snapshots.{want_dropped_calm, wanted_calm, start_calm, begun_calm, part_calm, same_calm}
-use Rattle.far_invariants.specs.Evictions.{Content, EvictionIs, EvictionsAre, RemoveAnsIs}
+use Rattle.far_invariants.specs.Evictions.{Content, EvictionIs, EvictionsAre, RemoveAnsIs, slot_answer}
 use Rattle.eviction_laws.proofs.Beginning.{key_held, victim_held}
 use Rattle.eviction_laws.proofs.Calming.{wanted_apart, begun_apart, part_apart, same_apart_job}
 use Rattle.eviction_laws.proofs.EveryEvent.{off_is}
@@ -94,7 +94,7 @@ removal_seated plan {c} s h v i from to j tag done latest num body at =
     Turned : Turn ControllerState → Type 0
     Turned t = Seated plan (controller_turn s (remove s.bag i) t)
 
-    q : RemoveAnsIs plan c s j tag done num body
+    q : RemoveAnsIs c s done (slot_answer j tag latest num body)
     q = v.packets _ (among_at _ s.bag i at)
 
     e : Eviction

@@ -18,7 +18,8 @@ use Rattle.flight_laws.proofs.Steps.{from_sound, sound_opens, sound_step, to_sou
 use Rattle.flight_laws.proofs.InKind.{answers_in_kind}
 use Rattle.eviction_laws.proofs.EveryEvent.{event_sound}
 use Rattle.eviction_laws.proofs.KnownEvents.{event_knows}
-use Rattle.eviction_laws.proofs.DrawnEvents.{event_draws}
+use Rattle.eviction_laws.proofs.Drawing.{row_draws}
+use Rattle.far_model.proofs.Steps.{steps_are_rows}
 use Rattle.eviction_laws.proofs.EvictingRuns.{opening_evicts}
 use Rattle.eviction_laws.proofs.KnownRuns.{opening_knows}
 use Rattle.eviction_laws.proofs.DrawnRuns.{opening_draws}
@@ -31,7 +32,7 @@ use Rattle.far_invariants.specs.SnapshotNeeds.{Needs as SnapshotNeeds}
 use Rattle.run_laws.proofs.Counters.{counters_stay}
 use Rattle.run_laws.proofs.Emptied.{stays_empty}
 use Rattle.run_laws.proofs.Events.{event_numbers}
-use Rattle.run_laws.proofs.Holding.{evictions_need, keys_need, numbers, round_need, seats_need, servers_written, slot_written, snapshots_needed, stops_need}
+use Rattle.run_laws.proofs.Holding.{evictions_need, keys_need, numbers, round_need, seats_need, slot_written, snapshots_needed, stops_need}
 use Rattle.run_laws.proofs.Numbers.{starts_stay}
 use Rattle.run_laws.proofs.Seating.{seated_of}
 use Rattle.run_laws.proofs.ShownEvents.{event_shown}
@@ -47,12 +48,12 @@ module _ (plan : PlanView) (past : Past) (s : State) (valid : IsPlan plan) (h : 
     empty = stays_empty plan (keeping_of s e) s h.empty e can;
     evictions = event_sound plan s e needed (round_need plan past s valid h) h.evictions can;
     known = event_knows plan s e needed (keys_need plan past s valid h) h.evictions h.known can;
-    drawn = event_draws plan s past e needed h.evictions h.drawn can;
+    drawn = row_draws plan past s (keeping_of s e) e (happens plan s e) h (steps_are_rows plan (keeping_of s e) s e can (answers_in_kind s e));
     stops = every_event plan past s e h.stops (stops_need plan past s valid h) can;
     snapshots = event_stands plan s past e h.snapshots snaps can;
     serving = event_flies_with plan (keeping_of s e) s past e h.snapshots h.serving snaps (λ x a. (h.flight.routed.messages x a).target) (keepers_answer s e) can;
     starts = starts_stay plan s (slot_written plan past s valid h) past e h.starts;
-    counters = counters_stay plan s h.counters (servers_written plan past s valid h) e can flies.routed;
+    counters = counters_stay plan past s valid h e can;
   }
     where
       flies : IsInFlight plan (happens plan s e)

@@ -18,7 +18,7 @@ use Rattle.far_invariants.specs.SlotMatch.{SlotsMatch}
 use Rattle.eviction_laws.proofs.Matching.{slots_match}
 use Rattle.flight_laws.proofs.SnapOwing.{written_agree}
 use Rattle.record_laws.proofs.Seats.{Seats}
-use Rattle.run_laws.proofs.Holding.{evictions_need, numbers, outside}
+use Rattle.run_laws.proofs.Holding.{numbers, outside}
 use Rattle.run_laws.proofs.Seating.{seats_of}
 
 module _ (plan : PlanView) (past : Past) (s : State) (valid : IsPlan plan) (h : Holds plan past s) where
@@ -30,7 +30,7 @@ module _ (plan : PlanView) (past : Past) (s : State) (valid : IsPlan plan) (h : 
   one_slot i j key a b x y = same_Some i j (sym (h.seated.slots.owned i key a x) ∙ h.seated.slots.owned j key b y)
 
   pub tags_drawn : SlotTagsAreDrawn s past.drawn
-  tags_drawn = slot_drawn plan s (evictions_need plan past s valid h) past.drawn h.drawn
+  tags_drawn = slot_drawn plan past s h
 
   -- while the switch runs
   pub seats : s.running ≡ true → Seats plan s

@@ -1,2 +1,3 @@
 pub mod KeptItems
 pub mod RestartBlocks
+pub mod ToldHistory

@@ -16,6 +16,7 @@ ghost use Rattle.far_model.specs.Rounds.{Round};
 ghost use Rattle.far_model.specs.Runs.{IsRun, is_quiet, run};
 ghost use Rattle.far_model.specs.State.{client_at, opening};
 ghost use Rattle.far_invariants.specs.Always.{Always};
+ghost use Rattle.far_invariants.specs.Covers.{IsAbsorbed, IsWriteMarkedNear};
 ghost use Rattle.far_invariants.specs.Past.{past_of};
 ghost use Rattle.far_invariants.specs.Recoveries.{BlocksAreRestarts, RecoversAfter, recovered_last};
 ghost use Rattle.far_invariants.specs.Restarts.{IsRestored};
@@ -28,6 +29,15 @@ ghost use Rattle.run_laws.specs.RestartBlocks.{BeginsWithRecovery, restart_block
 pub fn absorbed_is_kept()
     ensures absorbed { Always (λ plan events s. AbsorbedIsKept plan s) }
     ensures stops { Always (λ plan events s. Stops plan (recovered_last (past_of plan events)) s) }
+{}
+
+/// A write is absorbed exactly where some answer to it left the switch as its own: such an answer has the write's own
+/// number.
+pub fn absorbed_is_marked_near()
+    ensures marked { Always (λ plan events s. (key : List ℕ) (num : ℕ) → IsWriteMarkedNear plan s.log key num
+        → IsAbsorbed plan s.log key num) }
+    ensures absorbed { Always (λ plan events s. (key : List ℕ) (num : ℕ) → IsAbsorbed plan s.log key num
+        → IsWriteMarkedNear plan s.log key num) }
 {}
 
 /// At each restart the servers have, per key, the newest record of the kept list of the state in which the recovery
