@@ -4,7 +4,6 @@ ghost use Rattle.far_model.specs.Controller as model;
 ghost use Rattle.far_model.specs.Evictions as slots;
 ghost use Rattle.controller_core.specs.ControllerView.{at_state};
 ghost use Rattle.controller_core.specs.Notes.{notes_of};
-ghost use Rattle.controller_core.specs.Room.{HasRoom};
 ghost use Rattle.controller_core.specs.Staying.{leaves_first_want as leaves};
 ghost use Rattle.controller_core.specs.Wants.{first_want};
 
@@ -66,7 +65,7 @@ impl Controller {
     #[tactic(auto, using(crate::proofs::Ticks::tick_is, crate::proofs::Ticks::want_there))]
     pub fn tick(&mut self, out: &mut Vec<Out>) -> Result<(), Memory>
         requires ready { is_some (model.tick self.old.state) ≡ true }
-        requires room { HasRoom self.old.state }
+        requires room { self.old.state.next_tag + 1 < 2 ^ 64 }
         ensures state { OnOk result (IfSome (model.tick self.old.state) (λ turn. self.new
             ≡ at_state self.old turn.state)) }
         ensures out { OnOk result (IfSome (model.tick self.old.state) (λ turn. out.new.items
@@ -85,7 +84,7 @@ impl Controller {
     fn serve(&mut self, key: Key, out: &mut Vec<Out>)
         requires ready { is_some (model.tick_want self.old.state key (slots.first_place
             (slots.has_key key) self.old.state.slots)) ≡ true }
-        requires room { HasRoom self.old.state }
+        requires room { self.old.state.next_tag + 1 < 2 ^ 64 }
         requires spare { vec_len out.old + 1 ≤ vec_capacity out.old }
         ensures state { IfSome (model.tick_want self.old.state key (slots.first_place
             (slots.has_key key) self.old.state.slots)) (λ turn. self.new ≡ at_state self.old turn.state) }
@@ -101,7 +100,7 @@ impl Controller {
     fn admit(&mut self, key: Key, out: &mut Vec<Out>)
         requires ready { is_some (model.tick_free self.old.state key
             (slots.first_place slots.is_free self.old.state.slots)) ≡ true }
-        requires room { HasRoom self.old.state }
+        requires room { self.old.state.next_tag + 1 < 2 ^ 64 }
         requires spare { vec_len out.old + 1 ≤ vec_capacity out.old }
         ensures state { IfSome (model.tick_free self.old.state key
             (slots.first_place slots.is_free self.old.state.slots)) (λ turn. self.new ≡ at_state self.old turn.state) }

@@ -38,12 +38,11 @@ impl Model for Controller {
     ghost invariant = { λ c. IsFit (view_of c) };
 }
 
-ghost use Rattle.std.specs.Prelude.{◌≡◌, ◌++◌, ◌∷◌, [], not, nat_eq, length, true, false, Some, IfOk, OnOk, OnErr};
+ghost use Rattle.std.specs.Prelude.{◌≡◌, ◌+◌, ◌<◌, ◌^◌, ◌++◌, ◌∷◌, [], not, nat_eq, length, true, false, Some, IfOk, OnOk, OnErr};
 ghost use Rattle.std.specs.Prelude.{is_some};
 ghost use Rattle.far_base.specs.Limits.{IsConfig};
 ghost use Rattle.far_model.specs.Controller as model;
 ghost use Rattle.controller_core.specs.ControllerView.{at_state};
-ghost use Rattle.controller_core.specs.Room.{HasRoom};
 
 impl Controller {
     /// A controller of epoch 1 with free slots, which has done nothing.
@@ -126,7 +125,7 @@ impl Controller {
     /// counter.
     pub fn restart(&mut self) -> (u32, u64)
         requires ready { is_some (model.ready self.old.state) ≡ true }
-        requires room { HasRoom self.old.state }
+        requires room { self.old.state.epoch + 1 < 2 ^ 32 }
         ensures state { self.new ≡ at_state self.old (model.restarted self.old.state) }
         ensures epoch { result.0 ≡ self.new.state.epoch }
         ensures counter { model.ready self.old.state ≡ Some result.1 }

@@ -1,8 +1,8 @@
-ghost use Rattle.std.specs.Prelude.{◌≡◌, ◌++◌, IfOk, OnOk, OnErr};
+ghost use Rattle.std.specs.Prelude.{◌≡◌, ◌+◌, ◌<◌, ◌^◌, ◌++◌, true, IfOk, OnOk, OnErr};
 ghost use Rattle.far_model.specs.Controller as model;
 ghost use Rattle.controller_core.specs.ControllerView.{at_state};
 ghost use Rattle.controller_core.specs.Notes.{notes_of};
-ghost use Rattle.controller_core.specs.Room.{HasRoom};
+ghost use Rattle.controller_core.specs.Room.{may_store};
 
 use crate::controller::Controller;
 use crate::note::Note;
@@ -25,7 +25,7 @@ impl Controller {
     /// memory is refused, the controller and `out` are as before.
     #[tactic(auto, using(crate::proofs::Telling::told_quiet, crate::proofs::Telling::answered_quiet, crate::proofs::Telling::top_quiet))]
     pub fn deliver(&mut self, packet: &Packet, out: &mut Vec<Out>) -> Result<Note, Memory>
-        requires room { HasRoom self.old.state }
+        requires room { may_store packet.now ≡ true → self.old.state.next_job + 1 < 2 ^ 64 }
         ensures state { OnOk result (self.new ≡ at_state self.old
             (model.controller_takes self.old.config self.old.state packet.now).state) }
         ensures out { OnOk result (out.new.items ≡ out.old.items ++

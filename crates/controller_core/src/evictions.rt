@@ -4,7 +4,6 @@ ghost use Rattle.far_model.specs.Controller as model;
 ghost use Rattle.controller_core.specs.ControllerView.{at_state, EvictsSlot};
 ghost use Rattle.controller_core.specs.Going.{goes_on_if};
 ghost use Rattle.controller_core.specs.Notes.{notes_of};
-ghost use Rattle.controller_core.specs.Room.{HasRoom};
 
 use crate::controller::Controller;
 use crate::evicting::Evicting;
@@ -17,7 +16,7 @@ impl Controller {
     /// What comes next in an eviction, if anything does.
     fn go_on(&mut self, mut eviction: Evicting, next: Option<Next>, out: &mut Vec<Out>) -> Note
         requires slot { EvictsSlot self.old.state.slots (Some eviction) }
-        requires room { HasRoom self.old.state }
+        requires room { self.old.state.next_job + 1 < 2 ^ 64 }
         requires spare { vec_len out.old + 1 ≤ vec_capacity out.old }
         ensures state { self.new ≡ at_state self.old (goes_on_if self.old.config self.old.state eviction next).state }
         ensures out { out.new.items ≡ out.old.items ++ (goes_on_if self.old.config self.old.state eviction next).out }
@@ -82,7 +81,7 @@ impl Controller {
         body: Body,
         out: &mut Vec<Out>,
     ) -> Result<Note, Memory>
-        requires room { HasRoom self.old.state }
+        requires room { self.old.state.next_job + 1 < 2 ^ 64 }
         ensures state { OnOk result (self.new ≡ at_state self.old
             (model.peek_answered self.old.config self.old.state slot tag latest num body
             self.old.state.eviction).state) }
@@ -113,7 +112,7 @@ impl Controller {
         body: Body,
         out: &mut Vec<Out>,
     ) -> Result<Note, Memory>
-        requires room { HasRoom self.old.state }
+        requires room { self.old.state.next_job + 1 < 2 ^ 64 }
         ensures state { OnOk result (self.new ≡ at_state self.old
             (model.removal_answered self.old.config self.old.state slot tag done num body
             self.old.state.eviction).state) }

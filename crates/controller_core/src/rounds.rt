@@ -3,7 +3,7 @@ ghost use Rattle.std.specs.Prelude.{is_some, length, vec_len, vec_capacity};
 ghost use Rattle.far_model.specs.Controller as model;
 ghost use Rattle.controller_core.specs.ControllerView.{at_state};
 ghost use Rattle.controller_core.specs.Notes.{notes_of};
-ghost use Rattle.controller_core.specs.Room.{HasRoom};
+ghost use Rattle.far_base.specs.declared.plan.TheConstants.{SLOT_LIMIT};
 
 use crate::controller::Controller;
 use crate::note::Note;
@@ -24,9 +24,10 @@ fn send_told(
     out: &mut Vec<Out>,
 ) -> u64
     requires servers { 1 ≤ config.now.servers }
-    requires stores { round.old.stores + 1 < 2 ^ 64 - 1 }
+    requires stores { round.old.stores + 1 < 2 ^ 64 }
     requires spare { vec_len out.old + 1 ≤ vec_capacity out.old }
     ensures drawn { result ≡ length (model.store_outs config.now job item) }
+    ensures few { result ≤ 1 }
     ensures round { round.new ≡ record round.old {
       stores = round.old.stores + length
           (model.store_outs config.now job item);
@@ -51,7 +52,8 @@ impl Controller {
     /// round is under way.
     pub fn start_recovery(&mut self, out: &mut Vec<Out>) -> Result<(), Memory>
         requires round { is_some self.old.state.round ≡ false }
-        requires room { HasRoom self.old.state }
+        requires number { self.old.state.next_round + 1 < 2 ^ 32 }
+        requires jobs { self.old.state.next_job + SLOT_LIMIT < 2 ^ 64 }
         ensures state { OnOk result (self.new ≡ at_state self.old
             (model.start_recovery self.old.config self.old.state).state) }
         ensures out { OnOk result (out.new.items ≡ out.old.items ++
@@ -117,7 +119,7 @@ impl Controller {
         item: Option<Record>,
         out: &mut Vec<Out>,
     ) -> Result<(), Memory>
-        requires room { HasRoom self.old.state }
+        requires room { self.old.state.next_job + 1 < 2 ^ 64 }
         ensures state { OnOk result (self.new ≡ at_state self.old
             (model.client_told self.old.config self.old.state number caller total item self.old.state.round).state) }
         ensures out { OnOk result (out.new.items ≡ out.old.items ++

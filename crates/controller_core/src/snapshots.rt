@@ -5,7 +5,6 @@ ghost use Rattle.far_model.specs.Snapshots as snapshots;
 ghost use Rattle.controller_core.specs.ControllerView.{at_state};
 ghost use Rattle.controller_core.specs.Notes.{notes_of};
 ghost use Rattle.controller_core.specs.Going.{same_with};
-ghost use Rattle.controller_core.specs.Room.{HasRoom};
 
 use crate::controller::Controller;
 use crate::note::Note;
@@ -38,7 +37,7 @@ impl Controller {
     pub fn start_snapshot(&mut self, out: &mut Vec<Out>) -> Result<(), Memory>
         requires job { is_some self.old.state.job ≡ false }
         requires round { is_some self.old.state.round ≡ false }
-        requires room { HasRoom self.old.state }
+        requires room { self.old.state.next_id + 1 < 2 ^ 32 }
         ensures state { OnOk result (self.new ≡ at_state self.old (model.start_snapshot self.old.state).state) }
         ensures out { OnOk result (out.new.items ≡ out.old.items ++ (model.start_snapshot self.old.state).out) }
         ensures err { OnErr result (self.new ≡ self.old) }

@@ -69,8 +69,7 @@ fn records_of(alloc: Global, newest: &BTreeMap<Key, Versioned>) -> Result<Vec<Re
     Ok(records)
 }
 
-/// The record of greatest number of each key that has a number above 0, by key. Of two records of one key and number
-/// it takes the earlier one.
+/// The record of greatest number of each key that has a number above 0, by key.
 pub fn greatest(alloc: Global, list: &[Record]) -> Result<Vec<Record>, Memory>
     ensures { IfOk result (λ records. IsNewestPerKey list.now records.items) }
 {

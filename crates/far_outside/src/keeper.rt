@@ -24,7 +24,8 @@ pub enum KeeperFault {
 
 /// What keeps the records of the servers, which are numbered from 0. Each call fails only where the
 /// count of faults rose in this call or stands at its greatest. After any error the records are as
-/// before. The count of faults never falls; at the greatest `u64` it stays.
+/// before. A call that ends counts no fault. The count of faults never falls; at the greatest `u64` it
+/// stays.
 pub trait Keeper {
     // The records of each server, one of each key in the order in which the keys first came, where
     // the keeper tells them.
@@ -50,6 +51,7 @@ pub trait Keeper {
         ensures same_records { OnErr result (records self.new ≡ records self.old) }
         ensures same_servers { OnErr result (server_count self.new ≡ server_count self.old) }
         ensures same_ceiling { OnErr result (ceiling self.new ≡ ceiling self.old) }
+        ensures still { OnOk result (fault_count self.new ≡ fault_count self.old) }
         ensures later { fault_count self.old ≤ fault_count self.new }
         ensures cause { IsErrOf result KeeperFault.Failed → Rose (fault_count self.old) (fault_count self.new) };
 
@@ -63,6 +65,7 @@ pub trait Keeper {
         ensures same_records { records self.new ≡ records self.old }
         ensures same_servers { server_count self.new ≡ server_count self.old }
         ensures same_ceiling { ceiling self.new ≡ ceiling self.old }
+        ensures still { OnOk result (fault_count self.new ≡ fault_count self.old) }
         ensures later { fault_count self.old ≤ fault_count self.new }
         ensures cause { IsErrOf result KeeperFault.Failed → Rose (fault_count self.old) (fault_count self.new) };
 
@@ -75,6 +78,7 @@ pub trait Keeper {
         ensures same_records { OnErr result (records self.new ≡ records self.old) }
         ensures same_servers { server_count self.new ≡ server_count self.old }
         ensures same_ceiling { OnErr result (ceiling self.new ≡ ceiling self.old) }
+        ensures still { OnOk result (fault_count self.new ≡ fault_count self.old) }
         ensures later { fault_count self.old ≤ fault_count self.new }
         ensures cause { IsErrOf result KeeperFault.Failed → Rose (fault_count self.old) (fault_count self.new) };
 
@@ -86,6 +90,7 @@ pub trait Keeper {
         ensures same_records { records self.new ≡ records self.old }
         ensures same_servers { server_count self.new ≡ server_count self.old }
         ensures same_ceiling { ceiling self.new ≡ ceiling self.old }
+        ensures still { OnOk result (fault_count self.new ≡ fault_count self.old) }
         ensures later { fault_count self.old ≤ fault_count self.new }
         ensures cause { IsErrOf result KeeperFault.Failed → Rose (fault_count self.old) (fault_count self.new) };
 
@@ -100,6 +105,7 @@ pub trait Keeper {
         ensures same_records { records self.new ≡ records self.old }
         ensures same_servers { server_count self.new ≡ server_count self.old }
         ensures same_ceiling { ceiling self.new ≡ ceiling self.old }
+        ensures still { OnOk result (fault_count self.new ≡ fault_count self.old) }
         ensures later { fault_count self.old ≤ fault_count self.new }
         ensures cause { IsErrOf result KeeperFault.Failed → Rose (fault_count self.old) (fault_count self.new) };
 }

@@ -51,8 +51,8 @@ impl Model for MemSink {
     ghost view = { λ s. record { written = s.bytes.items; calls = s.calls; fails = s.fails.items; faults = s.faults } };
 }
 
-ghost use Rattle.std.specs.Prelude.{◌≡◌, ◌≤◌, ◌<◌, ◌^◌, ◌↔◌, [], length, Option, Some, IfOk, OnErr, IsErr, IsErrOf};
-ghost use Rattle.std.specs.Prelude.{IsTrue};
+ghost use Rattle.std.specs.Prelude.{◌≡◌, ◌≤◌, ◌<◌, ◌^◌, ◌↔◌, [], length, Option, Some, IfOk, OnOk, OnErr, IsErr};
+ghost use Rattle.std.specs.Prelude.{IsErrOf, IsTrue};
 ghost use Rattle.far_outside.specs.Bytes.{Takes, Puts};
 ghost use Rattle.far_outside.specs.Faults.{Rose, counted};
 ghost use Rattle.far_outside.specs.Listed.{is_listed};
@@ -88,6 +88,7 @@ impl Source for MemSource {
         requires small { length buf.old < 2 ^ 32 }
         ensures bound { IfOk result (λ n. n ≤ length buf.new) }
         ensures bytes { Takes (Some self.old.left) (Some self.new.left) result buf.new }
+        ensures still { OnOk result (self.new.faults ≡ self.old.faults) }
         ensures later { self.old.faults ≤ self.new.faults }
         ensures cause { OnErr result (Rose self.old.faults self.new.faults) }
         ensures calls { self.new.calls ≡ counted self.old.calls }
@@ -139,6 +140,7 @@ impl Sink for MemSink {
     /// greatest `u64` the number of calls stays.
     fn write(&mut self, piece: &[u8]) -> Result<(), SinkFault>
         ensures bytes { Puts (Some self.old.written) (Some self.new.written) piece.now result }
+        ensures still { OnOk result (self.new.faults ≡ self.old.faults) }
         ensures later { self.old.faults ≤ self.new.faults }
         ensures cause { IsErrOf result SinkFault.Failed → Rose self.old.faults self.new.faults }
         ensures calls { self.new.calls ≡ counted self.old.calls }

@@ -1,4 +1,4 @@
-ghost use Rattle.std.specs.Prelude.{◌≡◌, ℕ, List, ◌≤◌, Option, IsErrOf};
+ghost use Rattle.std.specs.Prelude.{◌≡◌, ℕ, List, ◌≤◌, Option, OnOk, IsErrOf};
 ghost use Rattle.far_outside.specs.Bytes.{Puts};
 ghost use Rattle.far_outside.specs.Faults.{Rose};
 
@@ -25,9 +25,11 @@ pub trait Sink {
         ensures { result ≡ fault_count self.now };
 
     /// Appends the piece. `Failed` only where the count of faults rose in this call or stands at its
-    /// greatest; then a front of the piece was appended. At `Memory` nothing was appended.
+    /// greatest; then a front of the piece was appended. At `Memory` nothing was appended. A write that
+    /// ends counts no fault.
     fn write(&mut self, piece: &[u8]) -> Result<(), SinkFault>
         ensures bytes { Puts (written self.old) (written self.new) piece.now result }
+        ensures still { OnOk result (fault_count self.new ≡ fault_count self.old) }
         ensures later { fault_count self.old ≤ fault_count self.new }
         ensures cause { IsErrOf result SinkFault.Failed → Rose (fault_count self.old) (fault_count self.new) };
 }

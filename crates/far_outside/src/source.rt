@@ -1,4 +1,4 @@
-ghost use Rattle.std.specs.Prelude.{◌≡◌, ℕ, List, ◌<◌, ◌≤◌, ◌^◌, length, Option, IfOk, OnErr};
+ghost use Rattle.std.specs.Prelude.{◌≡◌, ℕ, List, ◌<◌, ◌≤◌, ◌^◌, length, Option, IfOk, OnOk, OnErr};
 ghost use Rattle.far_outside.specs.Bytes.{Takes};
 ghost use Rattle.far_outside.specs.Faults.{Rose};
 
@@ -19,12 +19,13 @@ pub trait Source {
 
     /// Puts the next bytes at the front of the buffer and answers how many: 0 only at the end.
     /// `Failed` only where the count of faults rose in this call or stands at its greatest; what is
-    /// left is then unchanged.
+    /// left is then unchanged. A read that does not fail counts no fault.
     fn read(&mut self, buf: &mut [u8]) -> Result<u32, Failed>
         requires some { 0 < length buf.old }
         requires small { length buf.old < 2 ^ 32 }
         ensures bound { IfOk result (λ n. n ≤ length buf.new) }
         ensures bytes { Takes (left self.old) (left self.new) result buf.new }
+        ensures still { OnOk result (fault_count self.new ≡ fault_count self.old) }
         ensures later { fault_count self.old ≤ fault_count self.new }
         ensures cause { OnErr result (Rose (fault_count self.old) (fault_count self.new)) };
 }

@@ -80,6 +80,7 @@ fn a_standard_reader_and_writer_pass_bytes_on(rt: HostRuntime) -> Result<(), Fai
     let mut source = StdSource::new(text.as_slice());
     let bytes = read_all(alloc, &mut source, 10)?;
     assert!(rt; bytes.as_slice() == text.as_slice());
+    assert_eq!(rt; source.faults(), 0);
     let mut written = Vec::new(alloc);
     let mut sink = StdSink::new(&mut written);
     sink.write(&bytes)?;
@@ -115,6 +116,7 @@ fn listed_calls_fail(rt: HostRuntime) -> Result<(), Fail> {
     assert_eq!(rt; source.faults(), 1);
     assert!(rt; source.read(&mut [0; 4]) == Err(Failed));
     assert!(rt; source.read(&mut [0; 4]) == Ok(0));
+    assert_eq!(rt; source.faults(), 2);
     let mut sink = MemSink::new(alloc, Vec::from_array(alloc, [1])?);
     assert!(rt; sink.write(b"lost") == Err(SinkFault::Failed));
     sink.write(b"kept")?;

@@ -2,3 +2,4 @@ pub mod Fronts
 pub mod Digits
 pub mod Cuts
 pub mod Spelling
+pub mod HexLaws

@@ -4,3 +4,4 @@ pub mod Numbers
 pub mod Words
 pub mod Text
 pub mod Spelled
+pub mod Hex

@@ -2,10 +2,12 @@
 //! stand in.
 #![tactic(auto)]
 
+mod hexadecimal;
 mod lines;
 mod words;
 mod writer;
 
+pub use hexadecimal::{hex_of, put_hex};
 pub use lines::Lines;
 pub use words::{NUMBER_DIGITS, NUMBER_LIMIT, body_bytes_of, body_of, cut, key_of, number_of};
 pub use writer::{

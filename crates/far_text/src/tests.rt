@@ -46,6 +46,31 @@ fn words_are_read(rt: HostRuntime) {
 }
 
 #[test]
+fn bytes_are_two_digits_each(rt: HostRuntime) -> Result<(), Fail> {
+    let alloc = rt.alloc();
+    let bytes = [0, 9, 10, 0xa0, 255];
+    let mut out = Vec::new(alloc);
+    put_hex(&mut out, &bytes).ok().ok_or("no digits")?;
+    put_word(&mut out, &Word::Hex(&[0x7f]))
+        .ok()
+        .ok_or("no word")?;
+    assert!(rt; out.as_slice() == b"00090aa0ff7f".as_slice());
+    let read = hex_of(alloc, b"00090aa0ff").ok().ok_or("no memory")?;
+    assert!(rt; read.ok_or("not read")?.as_slice() == bytes.as_slice());
+    let none = hex_of(alloc, b"").ok().ok_or("no memory")?;
+    assert!(rt; none.ok_or("not read")?.is_empty());
+    for word in [
+        b"0".as_slice(),
+        b"0A".as_slice(),
+        b"0g".as_slice(),
+        b" 0".as_slice(),
+    ] {
+        assert!(rt; hex_of(alloc, word).ok().ok_or("no memory")?.is_none());
+    }
+    Ok(())
+}
+
+#[test]
 fn lines_end_at_their_ends(rt: HostRuntime) {
     let mut lines = Lines::new(b"one two\n\nrest");
     assert!(rt; matches!(lines.next_line(), Some(b"one two")));

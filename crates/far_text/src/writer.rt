@@ -7,6 +7,7 @@ ghost use Rattle.far_text.specs.Text.{body_word, after_words, text_line};
 ghost use Rattle.far_text.specs.Spelled.{word_text};
 ghost use Rattle.far_text.specs.Words.{IsKey};
 
+use crate::hexadecimal::put_hex;
 use far_base::{Body, Key, Memory};
 use itoa::Buffer;
 
@@ -27,6 +28,8 @@ pub enum Word<'a> {
     Key(&'a Key),
     /// `=` and the bytes of the body, or `-` where it is absent.
     Body(&'a Body),
+    /// Two hexadecimal digits for each of these bytes, with lower-case letters.
+    Hex(&'a [u8]),
 }
 
 /// Appends the bytes. At `Memory` nothing was appended.
@@ -112,6 +115,7 @@ pub fn put_word(out: &mut Vec<u8>, word: &Word) -> Result<(), Memory>
         Word::Number(number) => put_number(out, *number),
         Word::Key(key) => put_key(out, key),
         Word::Body(body) => put_body(out, body),
+        Word::Hex(bytes) => put_hex(out, bytes),
     }
 }
 

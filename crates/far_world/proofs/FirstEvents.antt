@@ -18,24 +18,6 @@ use Rattle.far_world.proofs.Choosing.{choice_enabled}
 pub filter_cons : (p : Event → Bool) (x : Event) (xs : List Event) → filter p (x ∷ xs) ≡ cond (p x) (x ∷ filter p xs) (filter p xs)
 filter_cons p x xs = refl
 
--- the first that passes, from a place on
-abbrev pub first_from : (Event → Bool) → ℕ → List Event → Option Event
-first_from p i xs = first_of (filter p (drop i xs))
-
-pub here : (p : Event → Bool) (i : ℕ) (xs : List Event) (e : Event) → i < length xs → e ≡ get_or xs i Tick → p e ≡ true → first_from p i xs ≡ Some e
-here p i xs e less is passes =
-    let k : p (get_or xs i Tick) ≡ true = ap p (sym is) ∙ passes in
-    rw (drop-cons xs i Tick less, filter_cons p (get_or xs i Tick) (drop (suc i) xs), k) (ap Some (sym is))
-
-pub further : (p : Event → Bool) (i : ℕ) (xs : List Event) (e : Event) → i < length xs → e ≡ get_or xs i Tick → p e ≡ false → first_from p i xs ≡ first_from p (i + 1) xs
-further p i xs e less is passes =
-    let k : p (get_or xs i Tick) ≡ false = ap p (sym is) ∙ passes in
-    let n : i + 1 ≡ suc i = omega arith in
-    rw (n, drop-cons xs i Tick less, filter_cons p (get_or xs i Tick) (drop (suc i) xs), k) refl
-
-pub nowhere : (p : Event → Bool) (i : ℕ) (xs : List Event) → length xs ≤ i → first_from p i xs ≡ None
-nowhere p i xs past = rw (drop_of_length-le xs past) refl
-
 among_filter : (p : Event → Bool) (e : Event) (xs : List Event) → first_of (filter p xs) ≡ Some e → Among e xs
 among_filter p e [] h = absurd cc
 among_filter p e (x ∷ xs) h = go (p x) (among_filter p e xs) (subst (λ (ys : List Event). first_of ys ≡ Some e) (filter_cons p x xs) h)

@@ -13,3 +13,4 @@ mod Counting
 mod Worlds
 mod Keeping
 mod FirstEvents
+mod Firsts

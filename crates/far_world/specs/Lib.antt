@@ -11,6 +11,7 @@ pub mod Standing
 pub mod Happening
 pub mod Listing
 pub mod Choices
+pub mod Firsts
 pub mod KeptList
 pub mod LastAnswer
 pub mod Turning

@@ -28,6 +28,7 @@ ghost use Rattle.far_model.specs.Events.{can_deliver, is_switch};
 ghost use Rattle.far_model.specs.Parties.{messages_from, to_party};
 ghost use Rattle.far_model.specs.Members.{is_empty};
 ghost use Rattle.far_world.specs.Choices.{nothing_sent};
+ghost use Rattle.far_world.specs.Firsts.{oldest_to};
 
 impl Bag {
     /// No messages.
@@ -108,6 +109,14 @@ impl Bag {
         ensures room { self.old.room ≤ self.new.room }
     {
         self.wires.remove(place);
+    }
+
+    /// The place of the oldest message to the party. No message is looked at where none is counted for it.
+    #[tactic(auto, using(crate::proofs::Firsts::oldest_is))]
+    pub(crate) fn oldest_to(&self, who: Party) -> Option<u32>
+        ensures { result ≡ oldest_to who self.now.messages }
+    {
+        self.wires.oldest_to(who)
     }
 
     /// Whether the switch sent none of the messages.

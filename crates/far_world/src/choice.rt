@@ -226,7 +226,7 @@ fn due_number_of(order: &Order) -> u64
 
 impl<S: Switch + Drop, K: Keeper + Drop> Parties<S, K> {
     /// Whether a recovery can begin.
-    fn can_recover(&self) -> bool
+    pub(crate) fn can_recover(&self) -> bool
         ensures { result ≡ events.can_recover self.now.state }
     {
         !self.running && !self.controller.has_round() && self.bag.none_from_switch()

@@ -103,6 +103,7 @@ impl<S: Switch + Drop, K: Keeper + Drop> Parties<S, K> {
             (record { from = from; to = Party.Server number; packet = packet.now })) }
         ensures ok { OnOk result (IsAfter self.old (Event.Deliver place) self.new) }
         ensures err { OnErr result (self.new ≡ with_faults self.old self.new.keeper.faults) }
+        ensures unfailed { OnOk result (self.new.keeper.faults ≡ self.old.keeper.faults) }
         ensures later { self.old.keeper.faults ≤ self.new.keeper.faults }
         ensures cause { IsErrOf result StepFault.KeeperFailed → Rose self.old.keeper.faults self.new.keeper.faults }
     {
@@ -137,6 +138,7 @@ impl<S: Switch + Drop, K: Keeper + Drop> Parties<S, K> {
         requires others { IsForOthers to }
         ensures ok { OnOk result (IsAfter self.old (Event.Deliver place) self.new) }
         ensures err { OnErr result (self.new ≡ self.old) }
+        ensures unfailed { OnOk result (self.new.keeper.faults ≡ self.old.keeper.faults) }
         ensures never { IsOkUnless result StepFault.Memory }
     {
         match self.deliver_to_others(place, to, packet) {
@@ -152,6 +154,7 @@ impl<S: Switch + Drop, K: Keeper + Drop> Parties<S, K> {
             (record { from = from; to = to; packet = packet.now })) }
         ensures ok { OnOk result (IsAfter self.old (Event.Deliver place) self.new) }
         ensures err { OnErr result (self.new ≡ with_faults self.old self.new.keeper.faults) }
+        ensures unfailed { OnOk result (self.new.keeper.faults ≡ self.old.keeper.faults) }
         ensures later { self.old.keeper.faults ≤ self.new.keeper.faults }
         ensures cause { IsErrOf result StepFault.KeeperFailed → Rose self.old.keeper.faults self.new.keeper.faults }
     {
@@ -169,6 +172,7 @@ impl<S: Switch + Drop, K: Keeper + Drop> Parties<S, K> {
         requires enabled { is_enabled self.old.plan self.old.state (Event.Deliver place) ≡ true }
         ensures ok { OnOk result (IsAfter self.old (Event.Deliver place) self.new) }
         ensures err { OnErr result (self.new ≡ with_faults self.old self.new.keeper.faults) }
+        ensures unfailed { OnOk result (self.new.keeper.faults ≡ self.old.keeper.faults) }
         ensures later { self.old.keeper.faults ≤ self.new.keeper.faults }
         ensures cause { IsErrOf result StepFault.KeeperFailed → Rose self.old.keeper.faults self.new.keeper.faults }
     {
@@ -185,6 +189,7 @@ impl<S: Switch + Drop, K: Keeper + Drop> Parties<S, K> {
         requires calm { IsCalm event }
         ensures ok { OnOk result (IsAfter self.old event self.new) }
         ensures err { OnErr result (self.new ≡ self.old) }
+        ensures unfailed { OnOk result (self.new.keeper.faults ≡ self.old.keeper.faults) }
         ensures never { IsOkUnless result StepFault.Memory }
     {
         match self.act(event) {
@@ -199,6 +204,7 @@ impl<S: Switch + Drop, K: Keeper + Drop> Parties<S, K> {
         requires enabled { is_enabled self.old.plan self.old.state Event.Restart ≡ true }
         ensures ok { OnOk result (IsAfter self.old Event.Restart self.new) }
         ensures err { OnErr result (self.new ≡ with_faults self.old self.new.keeper.faults) }
+        ensures unfailed { OnOk result (self.new.keeper.faults ≡ self.old.keeper.faults) }
         ensures later { self.old.keeper.faults ≤ self.new.keeper.faults }
         ensures cause { IsErrOf result StepFault.KeeperFailed → Rose self.old.keeper.faults self.new.keeper.faults }
     {
@@ -212,6 +218,7 @@ impl<S: Switch + Drop, K: Keeper + Drop> Parties<S, K> {
         requires enabled { is_enabled self.old.plan self.old.state event ≡ true }
         ensures ok { OnOk result (IsAfter self.old event self.new) }
         ensures err { OnErr result (self.new ≡ with_faults self.old self.new.keeper.faults) }
+        ensures unfailed { OnOk result (self.new.keeper.faults ≡ self.old.keeper.faults) }
         ensures later { self.old.keeper.faults ≤ self.new.keeper.faults }
         ensures cause { IsErrOf result StepFault.KeeperFailed → Rose self.old.keeper.faults self.new.keeper.faults }
     {
@@ -231,6 +238,7 @@ impl<S: Switch + Drop, K: Keeper + Drop> Parties<S, K> {
         requires ready { IsReady event self.old }
         ensures ok { OnOk result (IsAfter self.old event self.new) }
         ensures err { OnErr result (self.new ≡ with_faults self.old self.new.keeper.faults) }
+        ensures unfailed { OnOk result (self.new.keeper.faults ≡ self.old.keeper.faults) }
         ensures later { self.old.keeper.faults ≤ self.new.keeper.faults }
         ensures cause { IsErrOf result StepFault.KeeperFailed → Rose self.old.keeper.faults self.new.keeper.faults }
     {

@@ -2,6 +2,7 @@
 //! on their way in bytes, and the log of what happened.
 #![tactic(auto)]
 
+mod asking;
 mod bag;
 mod choice;
 mod happening;

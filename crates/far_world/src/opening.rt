@@ -46,6 +46,7 @@ fn begin<K: Keeper>(keeper: &mut K, servers: u32) -> Result<(), StepFault>
     ensures same_records { OnErr result (K.records keeper.new ≡ K.records keeper.old) }
     ensures same_servers { OnErr result (K.server_count keeper.new ≡ K.server_count keeper.old) }
     ensures same_ceiling { OnErr result (K.ceiling keeper.new ≡ K.ceiling keeper.old) }
+    ensures unfailed { OnOk result (K.fault_count keeper.new ≡ K.fault_count keeper.old) }
     ensures later { K.fault_count keeper.old ≤ K.fault_count keeper.new }
     ensures cause { IsErrOf result StepFault.KeeperFailed → Rose (K.fault_count keeper.old) (K.fault_count keeper.new) }
 {
@@ -66,6 +67,7 @@ impl<S: Switch + Drop, K: Keeper + Drop> Parties<S, K> {
         requires view { S.seen switch ≡ opening_view plan.config 1 0 }
         ensures ok { IfOk result (λ parties. IsOpened plan (keeper_of (K.records keeper) (K.server_count keeper)
             (K.ceiling keeper) (K.fault_count keeper)) parties) }
+        ensures unfailed { IfOk result (λ parties. parties.keeper.faults ≡ K.fault_count keeper) }
         ensures err_plan { IfErr result (λ halted. halted.plan ≡ plan) }
         ensures err_switch { IfErr result (λ halted. halted.switch ≡ switch) }
         ensures err_records { IfErr result (λ halted. K.records halted.keeper ≡ K.records keeper) }

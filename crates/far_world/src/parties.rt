@@ -145,6 +145,7 @@ impl<S: Switch + Drop, K: Keeper + Drop> Parties<S, K> {
         requires few { length self.old.state.bag < 2 ^ 28 }
         ensures ok { OnOk result (IsServed number packet.now self.old self.new) }
         ensures err { OnErr result (self.new ≡ with_faults self.old self.new.keeper.faults) }
+        ensures unfailed { OnOk result (self.new.keeper.faults ≡ self.old.keeper.faults) }
         ensures later { self.old.keeper.faults ≤ self.new.keeper.faults }
         ensures cause { IsErrOf result StepFault.KeeperFailed → Rose self.old.keeper.faults self.new.keeper.faults }
     {
@@ -202,6 +203,7 @@ impl<S: Switch + Drop, K: Keeper + Drop> Parties<S, K> {
         requires few { length self.old.state.bag < 2 ^ 28 }
         ensures ok { OnOk result (IsRestarted self.old self.new) }
         ensures err { OnErr result (self.new ≡ with_faults self.old self.new.keeper.faults) }
+        ensures unfailed { OnOk result (self.new.keeper.faults ≡ self.old.keeper.faults) }
         ensures later { self.old.keeper.faults ≤ self.new.keeper.faults }
         ensures cause { IsErrOf result StepFault.KeeperFailed → Rose self.old.keeper.faults self.new.keeper.faults }
     {

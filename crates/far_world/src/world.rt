@@ -82,6 +82,7 @@ impl<S: Switch + Drop, K: Keeper + Drop> World<S, K> {
         requires view { S.seen switch ≡ opening_view plan.config 1 0 }
         ensures started { IfOk result (λ world. HasStarted plan (keeper_of (K.records keeper)
             (K.server_count keeper) (K.ceiling keeper) (K.fault_count keeper)) world) }
+        ensures unfailed { IfOk result (λ world. world.keeper.faults ≡ K.fault_count keeper) }
         ensures err_plan { IfErr result (λ halted. halted.plan ≡ plan) }
         ensures err_switch { IfErr result (λ halted. halted.switch ≡ switch) }
         ensures err_records { IfErr result (λ halted. K.records halted.keeper ≡ K.records keeper) }
@@ -105,6 +106,7 @@ impl<S: Switch + Drop, K: Keeper + Drop> World<S, K> {
         requires { runs.is_quiet self.old.plan self.old.state ≡ false }
         ensures stepped { IfOk result (λ event. HasStepped self.old pick event self.new) }
         ensures err { OnErr result (self.new ≡ with_count self.old self.new.keeper.faults) }
+        ensures unfailed { OnOk result (self.new.keeper.faults ≡ self.old.keeper.faults) }
         ensures later { self.old.keeper.faults ≤ self.new.keeper.faults }
         ensures cause { IsErrOf result StepFault.KeeperFailed → Rose self.old.keeper.faults self.new.keeper.faults }
     {
@@ -118,6 +120,7 @@ impl<S: Switch + Drop, K: Keeper + Drop> World<S, K> {
         requires { is_enabled self.old.plan self.old.state event ≡ true }
         ensures turned { OnOk result (HasTurned self.old event self.new) }
         ensures err { OnErr result (self.new ≡ with_count self.old self.new.keeper.faults) }
+        ensures unfailed { OnOk result (self.new.keeper.faults ≡ self.old.keeper.faults) }
         ensures later { self.old.keeper.faults ≤ self.new.keeper.faults }
         ensures cause { IsErrOf result StepFault.KeeperFailed → Rose self.old.keeper.faults self.new.keeper.faults }
     {
@@ -146,7 +149,7 @@ impl<S: Switch + Drop, K: Keeper + Drop> World<S, K> {
     }
 
     /// The first event of the party that can happen.
-    fn first_event(&self, who: Party) -> Option<Event>
+    pub(crate) fn first_event(&self, who: Party) -> Option<Event>
         ensures { result ≡ choosing.first_event self.now.plan self.now.state who }
     {
         flight_laws::runs_are_sound();
@@ -160,6 +163,7 @@ impl<S: Switch + Drop, K: Keeper + Drop> World<S, K> {
     pub fn step_for(&mut self, who: Party) -> Result<Option<Event>, StepFault>
         ensures turned { IfOk result (λ found. TurnsFor self.old who found self.new) }
         ensures err { OnErr result (self.new ≡ with_count self.old self.new.keeper.faults) }
+        ensures unfailed { OnOk result (self.new.keeper.faults ≡ self.old.keeper.faults) }
         ensures later { self.old.keeper.faults ≤ self.new.keeper.faults }
         ensures cause { IsErrOf result StepFault.KeeperFailed → Rose self.old.keeper.faults self.new.keeper.faults }
     {
@@ -207,6 +211,7 @@ impl<S: Switch + Drop, K: Keeper + Drop> World<S, K> {
         ensures listed { OnOk result (ListsKept (scene_in self.old) into.old.items into.new.items) }
         ensures same { OnErr result (into.new.items ≡ into.old.items) }
         ensures world { self.new ≡ with_count self.old self.new.keeper.faults }
+        ensures unfailed { OnOk result (self.new.keeper.faults ≡ self.old.keeper.faults) }
         ensures later { self.old.keeper.faults ≤ self.new.keeper.faults }
         ensures cause { IsErrOf result StepFault.KeeperFailed → Rose self.old.keeper.faults self.new.keeper.faults }
     {

@@ -19,8 +19,7 @@ fn records_of(alloc: Global, items: &[KeptItem]) -> Result<Vec<Record>, Memory>
 }
 
 /// The map that a recovery from the image leaves: the record of greatest number of each key that has a number above
-/// 0, by key. Of two records of one key and number it takes the earlier one; in an image that was read they are the
-/// same.
+/// 0, by key. In an image that was read, two records of one key and number are the same.
 pub fn recovered(alloc: Global, image: &Image) -> Result<Vec<Record>, Memory>
     ensures { IfOk result (λ records. IsNewestPerKey (records_in image.now) records.items) }
 {

@@ -76,7 +76,7 @@ impl Round {
 
     /// One more store is under way.
     pub fn asked_store(&mut self)
-        requires { self.old.stores + 1 < 2 ^ 64 - 1 }
+        requires { self.old.stores + 1 < 2 ^ 64 }
         ensures { self.new ≡ record self.old { stores = self.old.stores + 1 } }
     {
         self.stores += 1;

@@ -23,6 +23,17 @@ fn filled<T: Copy>(alloc: Global, item: T, count: usize) -> Result<Vec<T>, Alloc
     Ok(items)
 }
 
+/// The same items in a list of its own.
+fn duplicate<T: Copy>(alloc: Global, items: &[T]) -> Result<Vec<T>, AllocError>
+    ensures { IfOk result (λ copy. copy.items ≡ items.now) }
+{
+    let mut copy = Vec::with_capacity(alloc, items.len())?;
+    for k in 0..items.len() {
+        copy.push_reserved(items[k]);
+    }
+    Ok(copy)
+}
+
 fn fill<T: Copy>(items: &mut [T], item: T)
     ensures { items.new ≡ replicate (length items.old) item }
 {
@@ -40,6 +51,17 @@ impl<T: Copy> RegArray<T> {
         Ok(RegArray {
             place,
             cells: filled(alloc, first, cells as usize)?,
+        })
+    }
+
+    /// An array at the same place with the same cells.
+    pub fn copied(&self, alloc: Global) -> Result<Self, Memory>
+        ensures cells { IfOk result (λ a. cells_of a ≡ cells_of self.now) }
+        ensures place { IfOk result (λ a. place_of a ≡ place_of self.now) }
+    {
+        Ok(RegArray {
+            place: self.place,
+            cells: duplicate(alloc, &self.cells)?,
         })
     }
 

@@ -50,6 +50,7 @@ impl ScriptedKeeper {
     fn count_call(&mut self) -> Result<(), KeeperFault>
         ensures lists { self.new.lists ≡ self.old.lists }
         ensures counted { HasCounted self.old self.new result }
+        ensures still { OnOk result (self.new.faults ≡ self.old.faults) }
         ensures later { self.old.faults ≤ self.new.faults }
         ensures cause { OnErr result (Rose self.old.faults self.new.faults) }
         ensures never { IsErrOf result KeeperFault.Memory → ⊥ }
@@ -82,6 +83,7 @@ impl Keeper for ScriptedKeeper {
         ensures servers { OnOk result (length self.new.lists ≡ servers) }
         ensures ceiling { OnOk result (top_of_all self.new.lists ≡ 0) }
         ensures err { OnErr result (self.new.lists ≡ self.old.lists) }
+        ensures still { OnOk result (self.new.faults ≡ self.old.faults) }
         ensures later { self.old.faults ≤ self.new.faults }
         ensures cause { IsErrOf result KeeperFault.Failed → Rose self.old.faults self.new.faults }
         ensures counted { HasCounted self.old self.new result }
@@ -97,6 +99,7 @@ impl Keeper for ScriptedKeeper {
         ensures bound { IfOk result (λ r. r.num ≤ top_of_all self.old.lists) }
         ensures never { IsErrOf result KeeperFault.Memory → ⊥ }
         ensures same { self.new.lists ≡ self.old.lists }
+        ensures still { OnOk result (self.new.faults ≡ self.old.faults) }
         ensures later { self.old.faults ≤ self.new.faults }
         ensures cause { IsErrOf result KeeperFault.Failed → Rose self.old.faults self.new.faults }
         ensures counted { HasCounted self.old self.new result }
@@ -114,6 +117,7 @@ impl Keeper for ScriptedKeeper {
         ensures err { OnErr result (self.new.lists ≡ self.old.lists) }
         ensures absent { IsErrOf result KeeperFault.Memory → has_key (records_of self.old.lists server) rec.now.key
             ≡ false }
+        ensures still { OnOk result (self.new.faults ≡ self.old.faults) }
         ensures later { self.old.faults ≤ self.new.faults }
         ensures cause { IsErrOf result KeeperFault.Failed → Rose self.old.faults self.new.faults }
         ensures counted { HasCounted self.old self.new result }
@@ -129,6 +133,7 @@ impl Keeper for ScriptedKeeper {
         ensures bound { IfOk result (λ num. num ≤ top_of_all self.old.lists) }
         ensures never { IsErrOf result KeeperFault.Memory → ⊥ }
         ensures same { self.new.lists ≡ self.old.lists }
+        ensures still { OnOk result (self.new.faults ≡ self.old.faults) }
         ensures later { self.old.faults ≤ self.new.faults }
         ensures cause { IsErrOf result KeeperFault.Failed → Rose self.old.faults self.new.faults }
         ensures counted { HasCounted self.old self.new result }
@@ -144,6 +149,7 @@ impl Keeper for ScriptedKeeper {
         ensures bound { OnOk result (ListsUpTo (top_of_all self.old.lists) into.old.items into.new.items) }
         ensures none { OnErr result (into.new.items ≡ into.old.items) }
         ensures same { self.new.lists ≡ self.old.lists }
+        ensures still { OnOk result (self.new.faults ≡ self.old.faults) }
         ensures later { self.old.faults ≤ self.new.faults }
         ensures cause { IsErrOf result KeeperFault.Failed → Rose self.old.faults self.new.faults }
         ensures counted { HasCounted self.old self.new result }

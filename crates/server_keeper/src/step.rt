@@ -66,6 +66,7 @@ fn keep<K: Keeper>(
     ensures same_records { OnErr result (K.records keeper.new ≡ K.records keeper.old) }
     ensures same_servers { K.server_count keeper.new ≡ K.server_count keeper.old }
     ensures same_ceiling { OnErr result (K.ceiling keeper.new ≡ K.ceiling keeper.old) }
+    ensures unfailed { OnOk result (K.fault_count keeper.new ≡ K.fault_count keeper.old) }
     ensures later { K.fault_count keeper.old ≤ K.fault_count keeper.new }
     ensures cause { IsErrOf result StepFault.KeeperFailed → Rose (K.fault_count keeper.old) (K.fault_count keeper.new) }
 {
@@ -76,8 +77,8 @@ fn keep<K: Keeper>(
 
 /// The server handles a packet, of the kinds `GetFwd`, `WriteFwd`, `Store` and `TopAsk`, over the
 /// records that the keeper has, and answers with the reply. `KeeperFailed` only where the keeper's
-/// count of faults rose in this call or stands at its greatest. After any error the records are as
-/// before.
+/// count of faults rose in this call or stands at its greatest; where it answers, no call failed. After
+/// any error the records are as before.
 pub fn server_step<K: Keeper>(
     keeper: &mut K,
     server: u32,
@@ -95,6 +96,7 @@ pub fn server_step<K: Keeper>(
     ensures same_records { OnErr result (K.records keeper.new ≡ K.records keeper.old) }
     ensures same_servers { K.server_count keeper.new ≡ K.server_count keeper.old }
     ensures same_ceiling { OnErr result (K.ceiling keeper.new ≡ K.ceiling keeper.old) }
+    ensures unfailed { OnOk result (K.fault_count keeper.new ≡ K.fault_count keeper.old) }
     ensures later { K.fault_count keeper.old ≤ K.fault_count keeper.new }
     ensures cause { IsErrOf result StepFault.KeeperFailed → Rose (K.fault_count keeper.old) (K.fault_count keeper.new) }
 {

@@ -43,6 +43,7 @@ ghost use Rattle.server_keeper.specs.Table.{empty_table, no_table, faults_after,
 fn counted<T>(faults: &mut u64, answer: Result<T, KeeperFault>) -> Result<T, KeeperFault>
     ensures same { result ≡ answer }
     ensures count { faults.new ≡ faults_after answer faults.old }
+    ensures still { OnOk result (faults.new ≡ faults.old) }
     ensures later { faults.old ≤ faults.new }
 {
     if matches!(&answer, Err(KeeperFault::Failed)) {
@@ -188,6 +189,7 @@ impl Keeper for TableKeeper {
         ensures ok { OnOk result (self.new ≡ record self.old { servers = servers; ceiling = 0 }) }
         ensures err { OnErr result (self.new ≡ record self.old { faults = self.new.faults }) }
         ensures count { self.new.faults ≡ faults_after result self.old.faults }
+        ensures still { OnOk result (self.new.faults ≡ self.old.faults) }
         ensures later { self.old.faults ≤ self.new.faults }
         ensures none { FailsWithout self.old result }
     {
@@ -203,6 +205,7 @@ impl Keeper for TableKeeper {
         ensures bound { IfOk result (λ r. r.num ≤ self.old.ceiling) }
         ensures same { self.new ≡ record self.old { faults = self.new.faults } }
         ensures count { self.new.faults ≡ faults_after result self.old.faults }
+        ensures still { OnOk result (self.new.faults ≡ self.old.faults) }
         ensures later { self.old.faults ≤ self.new.faults }
         ensures none { FailsWithout self.old result }
     {
@@ -215,6 +218,7 @@ impl Keeper for TableKeeper {
         ensures ok { OnOk result (self.new ≡ record self.old { ceiling = max self.old.ceiling rec.now.num }) }
         ensures err { OnErr result (self.new ≡ record self.old { faults = self.new.faults }) }
         ensures count { self.new.faults ≡ faults_after result self.old.faults }
+        ensures still { OnOk result (self.new.faults ≡ self.old.faults) }
         ensures later { self.old.faults ≤ self.new.faults }
         ensures none { FailsWithout self.old result }
     {
@@ -228,6 +232,7 @@ impl Keeper for TableKeeper {
         ensures bound { IfOk result (λ num. num ≤ self.old.ceiling) }
         ensures same { self.new ≡ record self.old { faults = self.new.faults } }
         ensures count { self.new.faults ≡ faults_after result self.old.faults }
+        ensures still { OnOk result (self.new.faults ≡ self.old.faults) }
         ensures later { self.old.faults ≤ self.new.faults }
         ensures none { FailsWithout self.old result }
     {
@@ -241,6 +246,7 @@ impl Keeper for TableKeeper {
         ensures unlisted { OnErr result (into.new.items ≡ into.old.items) }
         ensures same { self.new ≡ record self.old { faults = self.new.faults } }
         ensures count { self.new.faults ≡ faults_after result self.old.faults }
+        ensures still { OnOk result (self.new.faults ≡ self.old.faults) }
         ensures later { self.old.faults ≤ self.new.faults }
         ensures none { FailsWithout self.old result }
     {

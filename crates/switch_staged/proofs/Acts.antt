@@ -9,7 +9,7 @@ use Rattle.far_model.specs.Pass.{Passed, raised, with_slot}
 use Rattle.switch_staged.specs.declared.cells.Head.{Head}
 use Rattle.switch_staged.specs.declared.flight.Act.{Act}
 use Rattle.switch_staged.specs.declared.flight.Act.TheVariants.{Keep, Absorb, Raise, Bind, Clear}
-use Rattle.switch_staged.specs.declared.flight.Flight.{Flight}
+use Rattle.switch_staged.specs.declared.flight.Course.{Course}
 use Rattle.switch_staged.specs.Heads.{writes, is_own, act_for, acted, cells_of_body, body_after}
 use Rattle.switch_staged.specs.Stages.{head_at, met, taken_after, part_for}
 use Rattle.switch_staged.specs.Rows.{row, joined}
@@ -20,23 +20,23 @@ use Rattle.switch_staged.proofs.SlotLaws.{set_same}
 use Rattle.switch_staged.proofs.HitLaws.{old_taken}
 use Rattle.switch_staged.proofs.KindLaws.{own_passes, row_bytes, slot_at_is}
 
-abbrev pub met_as : Act → Head → Flight → Flight
+abbrev pub met_as : Act → Head → Course → Course
 met_as a h f = record f { found = h; act = a; cells = cells_of_body (body_after a f.packet) }
 
-abbrev pub landed_as : Act → Registers → ℕ → Flight → Flight
+abbrev pub landed_as : Act → Registers → ℕ → Course → Course
 landed_as a r i f = record f { found = head_at r.heads i; act = a; part = part_for (met_as a (head_at r.heads i) f) (old_taken r i); hot = false; cells = row i r.arrays }
 
-abbrev pub slot_as : Act → Registers → ℕ → Flight → SlotView
+abbrev pub slot_as : Act → Registers → ℕ → Course → SlotView
 slot_as a r i f = slot_of (acted a f.gate.counter f.packet (head_at r.heads i)) (joined (bytes_left (cells_of_body (body_after a f.packet)) (row i r.arrays) (writes a)))
 
-abbrev pub outcome_as : Config → Registers → Flight → ℕ → Act → Passed
+abbrev pub outcome_as : Config → Registers → Course → ℕ → Act → Passed
 outcome_as config r f i a = record {
   view = record (view_of config r) { slots = slice_set (slots_of config.slots r.heads r.arrays) i (slot_as a r i f); taken = slice_set (eras_of r.taken) i (taken_after (met_as a (head_at r.heads i) f) (old_taken r i)).era; shown = slice_set (marks_of r.taken) i (taken_after (met_as a (head_at r.heads i) f) (old_taken r i)).mark };
   first = first_out config (landed_as a r i f);
   second = second_out (landed_as a r i f);
 }
 
-pub own_acts : (config : Config) (r : Registers) (f : Flight) (i : ℕ) (a : Act) → Fits config r → i < config.slots → f.place ≡ Some i → is_own f.packet (head_at r.heads i) ≡ true → act_for f.packet (head_at r.heads i) ≡ a
+pub own_acts : (config : Config) (r : Registers) (f : Course) (i : ℕ) (a : Act) → Fits config r → i < config.slots → f.place ≡ Some i → is_own f.packet (head_at r.heads i) ≡ true → act_for f.packet (head_at r.heads i) ≡ a
     → from_heads config r f ≡ outcome_as config r f i a
 own_acts config r f i a fits b p o e = own_passes config r f i fits b p o ∙ ap (outcome_as config r f i) e
 

@@ -14,7 +14,7 @@ use Rattle.far_model.specs.Pass.{Passed, pass, sent_to, absorbing, raised, chang
 use Rattle.switch_staged.specs.declared.cells.Head.{Head}
 use Rattle.switch_staged.specs.declared.flight.Act.{Act}
 use Rattle.switch_staged.specs.declared.flight.Act.TheVariants.{Keep, Absorb, Raise, Bind, Clear}
-use Rattle.switch_staged.specs.declared.flight.Flight.{Flight}
+use Rattle.switch_staged.specs.declared.flight.Course.{Course}
 use Rattle.switch_staged.specs.Heads.{is_own, act_for, acted, bare, cells_of_body, body_after, gate_after, goes_on, place_for, bound_after, new_num, new_body, bound_head}
 use Rattle.switch_staged.specs.Stages.{head_at, met, missed, taken_after, wants_part, PlaceBelow, key_touched, changes_record, entered}
 use Rattle.switch_staged.specs.Shapes.{shaped, shape_of}

@@ -14,7 +14,7 @@ use Rattle.switch_core.specs.declared.switch.Emit.{Emit}
 use Rattle.switch_staged.specs.declared.cells.Head.{Head}
 use Rattle.switch_staged.specs.declared.cells.Taken.{Taken}
 use Rattle.switch_staged.specs.declared.flight.Act.{Act}
-use Rattle.switch_staged.specs.declared.flight.Flight.{Flight}
+use Rattle.switch_staged.specs.declared.flight.Course.{Course}
 use Rattle.switch_staged.specs.Changes.{IsCut, bytes_left, rows_left}
 use Rattle.switch_staged.specs.Emits.{slot_of}
 use Rattle.switch_staged.specs.Heads.{is_own, act_for, acted, head_after, body_after, cells_of_body, writes, new_body, bound_head, empty_head}
@@ -34,19 +34,19 @@ use Rattle.switch_staged.proofs.ThroughLaws.{after_fits, through_fits, line_is_f
 
 -- ---- each pass leaves the cells those of the bodies
 
-parted_place : (taken : List Taken) (q : Option ℕ) (f : Flight) → (parted_at taken q f).place ≡ f.place
+parted_place : (taken : List Taken) (q : Option ℕ) (f : Course) → (parted_at taken q f).place ≡ f.place
 parted_place taken None f = refl
 parted_place taken (Some i) f = refl
 
-parted_act : (taken : List Taken) (q : Option ℕ) (f : Flight) → (parted_at taken q f).act ≡ f.act
+parted_act : (taken : List Taken) (q : Option ℕ) (f : Course) → (parted_at taken q f).act ≡ f.act
 parted_act taken None f = refl
 parted_act taken (Some i) f = refl
 
-parted_cells : (taken : List Taken) (q : Option ℕ) (f : Flight) → (parted_at taken q f).cells ≡ f.cells
+parted_cells : (taken : List Taken) (q : Option ℕ) (f : Course) → (parted_at taken q f).cells ≡ f.cells
 parted_cells taken None f = refl
 parted_cells taken (Some i) f = refl
 
-arrays_left : (i : ℕ) (arrays : List (List (List ℕ))) (f : Flight) → f.place ≡ Some i → length f.cells ≡ length arrays → arrays_after 0 arrays f ≡ rows_left i arrays f
+arrays_left : (i : ℕ) (arrays : List (List (List ℕ))) (f : Course) → f.place ≡ Some i → length f.cells ≡ length arrays → arrays_after 0 arrays f ≡ rows_left i arrays f
 arrays_left i arrays f p l = by (writes f.act) refl
   where
     by : (w : Bool) → writes f.act ≡ w → arrays_after 0 arrays f ≡ rows_left i arrays f
@@ -71,10 +71,10 @@ row_kept i j (a ∷ arrays) (c ∷ cells) n =
 cut_as : (s t : Option ℕ) (c d : List (List ℕ)) → s ≡ t → c ≡ d → IsCut t d → IsCut s c
 cut_as s t c d e g h = subst (λ x. IsCut x c) (sym e) (subst (IsCut t) (sym g) h)
 
-abbrev pub Left : Registers → Flight → ℕ → Act → List (List (List ℕ))
+abbrev pub Left : Registers → Course → ℕ → Act → List (List (List ℕ))
 Left r f j a = if writes a then with_row j r.arrays (cells_of_body (body_after a f.packet)) else r.arrays
 
-own_cut : (config : Config) (r : Registers) (f : Flight) (j : ℕ) (a : Act) (h : Head) → Fits config r → IsShort f.packet → (bound_head f.packet).shape ≡ None → AreCut config.slots r → j < config.slots → head_at r.heads j ≡ h
+own_cut : (config : Config) (r : Registers) (f : Course) (j : ℕ) (a : Act) (h : Head) → Fits config r → IsShort f.packet → (bound_head f.packet).shape ≡ None → AreCut config.slots r → j < config.slots → head_at r.heads j ≡ h
     → (i : ℕ) → i < config.slots → IsCut (head_at (slice_set r.heads j (acted a f.gate.counter f.packet h)) i).shape (row i (Left r f j a))
 own_cut config r f j a h fits short none cut b e i d = by (nat_eq i j) refl
   where
@@ -94,13 +94,13 @@ own_cut config r f j a h fits short none cut b e i d = by (nat_eq i j) refl
         let other : i ≡ j → ⊥ = λ q. false≢true (sym g ∙ eq-eqb i j q) in
         cut_as _ _ _ _ (ap (λ (x : Head). x.shape) (get_or-set_other r.heads j i (acted a f.gate.counter f.packet h) empty_head other)) (there other (writes a)) (cut i d)
 
-kept_cut : (config : Config) (r : Registers) (g : Flight) (heads : List Head) → AreCut config.slots r → heads ≡ r.heads → g.place ≡ None → (i : ℕ) → i < config.slots → IsCut (head_at heads i).shape (row i (arrays_after 0 r.arrays g))
+kept_cut : (config : Config) (r : Registers) (g : Course) (heads : List Head) → AreCut config.slots r → heads ≡ r.heads → g.place ≡ None → (i : ℕ) → i < config.slots → IsCut (head_at heads i).shape (row i (arrays_after 0 r.arrays g))
 kept_cut config r g heads cut e p i b = cut_as _ _ _ _ (ap (λ hs. (head_at hs i).shape) e) (ap (row i) (writes_nothing 0 r.arrays g p)) (cut i b)
 
-past_place : (config : Config) (r : Registers) (f : Flight) → (past_taken config r f).place ≡ f.place
+past_place : (config : Config) (r : Registers) (f : Course) → (past_taken config r f).place ≡ f.place
 past_place config r f = parted_place r.taken f.place f
 
-met_cut : (config : Config) (r : Registers) (f : Flight) (j : ℕ) → Fits config r → IsShort f.packet → (bound_head f.packet).shape ≡ None → AreCut config.slots r → j < config.slots → f.place ≡ Some j → (own : Bool) → is_own f.packet (head_at r.heads j) ≡ own
+met_cut : (config : Config) (r : Registers) (f : Course) (j : ℕ) → Fits config r → IsShort f.packet → (bound_head f.packet).shape ≡ None → AreCut config.slots r → j < config.slots → f.place ≡ Some j → (own : Bool) → is_own f.packet (head_at r.heads j) ≡ own
     → (i : ℕ) → i < config.slots → IsCut (head_at (slice_set r.heads j (if own then acted (act_for f.packet (head_at r.heads j)) f.gate.counter f.packet (head_at r.heads j) else head_at r.heads j)) i).shape
     (row i (arrays_after 0 r.arrays (past_taken config r (if own then met (head_at r.heads j) f else missed f))))
 met_cut config r f j fits short none cut b p true o i d =
@@ -117,7 +117,7 @@ met_cut config r f j fits short none cut b p true o i d =
 met_cut config r f j fits short none cut b p false o i d =
     kept_cut config r (past_taken config r (missed f)) _ cut (set_same r.heads j empty_head) (past_place config r (missed f)) i d
 
-heads_cut : (config : Config) (r : Registers) (f : Flight) → Fits config r → IsShort f.packet → (bound_head f.packet).shape ≡ None → AreCut config.slots r → (q : Option ℕ) → f.place ≡ q → PlaceBelow q config.slots
+heads_cut : (config : Config) (r : Registers) (f : Course) → Fits config r → IsShort f.packet → (bound_head f.packet).shape ≡ None → AreCut config.slots r → (q : Option ℕ) → f.place ≡ q → PlaceBelow q config.slots
     → (i : ℕ) → i < config.slots → IsCut (head_at (heads_at r.heads q f) i).shape (row i (arrays_after 0 r.arrays (past_taken config r (headed_at r.heads q f))))
 unfolding head_after
 heads_cut config r f fits short none cut None p b i d = kept_cut config r (past_taken config r f) r.heads cut refl (past_place config r f ∙ p) i d
@@ -128,7 +128,7 @@ unfolding bound_head
 bound_empty (Admit epoch slot key tag) = refl
 bound_empty _ = refl
 
-after_cut : (config : Config) (r : Registers) (p : Packet) → Fits config r → IsShort p → AreCut config.slots r → AreCut config.slots (after config r p)
+pub after_cut : (config : Config) (r : Registers) (p : Packet) → Fits config r → IsShort p → AreCut config.slots r → AreCut config.slots (after config r p)
 after_cut config r p fits short cut i d = heads_cut config r (before_heads config r p) fits short (bound_empty p) cut (before_heads config r p).place refl (place_in config r.bound r.gate p fits.bound) i d
 
 through_cut : (config : Config) (r : Registers) (ps : List Packet) → Fits config r → AllByRecursion IsShort ps → AreCut config.slots r → AreCut config.slots (through config r ps)
@@ -137,7 +137,7 @@ through_cut config r (p ∷ ps) fits short cut = through_cut config (after confi
 
 -- ---- one cell
 
-get_row : (i k : ℕ) (arrays : List (List (List ℕ))) → k < length arrays → slice_index_or (row i arrays) k zero_cell ≡ slice_index_or (slice_index_or arrays k []) i zero_cell
+pub get_row : (i k : ℕ) (arrays : List (List (List ℕ))) → k < length arrays → slice_index_or (row i arrays) k zero_cell ≡ slice_index_or (slice_index_or arrays k []) i zero_cell
 get_row i k [] b = absurd (omega (arith, b))
 get_row i zero (a ∷ arrays) b = refl
 get_row i (suc k) (a ∷ arrays) b = get_row i k arrays (grind (arith, b))
@@ -151,7 +151,7 @@ get_cut (suc n) zero bytes b = refl
 get_cut (suc n) (suc k) bytes b = get_cut n k (drop CELL_LENGTH bytes) (grind (arith, b))
     ∙ ap (take CELL_LENGTH) (drop-drop (k * CELL_LENGTH) CELL_LENGTH bytes ∙ ap (λ m. drop m bytes) (next_cell k))
 
-cell_is : (config : Config) (r : Registers) (i k : ℕ) → Fits config r → AreCut config.slots r → i < config.slots → k < BODY_CELLS → slice_index_or (array_of k r) i zero_cell ≡ body_cell k (slot_at (view_of config r) i).body
+pub cell_is : (config : Config) (r : Registers) (i k : ℕ) → Fits config r → AreCut config.slots r → i < config.slots → k < BODY_CELLS → slice_index_or (array_of k r) i zero_cell ≡ body_cell k (slot_at (view_of config r) i).body
 unfolding cells_of_body cut_cells
 cell_is config r i k fits c b d =
     sym (get_row i k r.arrays (subst (λ m. k < m) (sym fits.count) d))
@@ -162,7 +162,7 @@ cell_is config r i k fits c b d =
 uneven : (n : ℕ) → 0 ≡ suc n → ⊥
 uneven n e = omega (arith, e)
 
-bodies_at : (k j : ℕ) (config : Config) (first : Registers) (arrays : List (List (List ℕ))) (waiting : List (Option Flight)) (came left : List Packet) → length arrays ≡ length waiting → j < length arrays → Bodies k config first arrays waiting came left
+bodies_at : (k j : ℕ) (config : Config) (first : Registers) (arrays : List (List (List ℕ))) (waiting : List (Option Course)) (came left : List Packet) → length arrays ≡ length waiting → j < length arrays → Bodies k config first arrays waiting came left
     → (gone : List Packet) × (came ≡ gone ++ oldest_first (take (suc j) (map packet_of waiting))) × (slice_index_or arrays j [] ≡ array_of (k + j) (through config first gone))
 bodies_at k j config first [] waiting came left l b h = absurd (omega (arith, b))
 bodies_at k j config first (a ∷ arrays) [] came left l b h = absurd (uneven (length arrays) (sym l))

@@ -3,7 +3,7 @@ use Rattle.std.proofs.Common.{◌≡◌, ℕ, zero, suc, ◌+◌, ◌-◌, ◌<�
 use Rattle.std.specs.Prelude.{slice_index_or, slice_set, map, replicate}
 use Rattle.std.proofs.lemmas.List.{append-nil, append_assoc, drop_more, take_more, take_more_set, map-append, length-append, length-map}
 use Rattle.far_base.specs.declared.packet.Packet.{Packet}
-use Rattle.switch_staged.specs.declared.flight.Flight.{Flight}
+use Rattle.switch_staged.specs.declared.flight.Course.{Course}
 use Rattle.switch_staged.specs.Overlap.{packet_of, one_packet, oldest_first, in_front, kept}
 use Rattle.switch_staged.proofs.SlotLaws.{set_middle}
 

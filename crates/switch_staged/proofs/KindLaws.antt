@@ -14,7 +14,7 @@ use Rattle.far_model.specs.Pass.{Passed, pass, sent_to, with_slot, with_taken, a
 use Rattle.switch_staged.specs.declared.cells.Head.{Head}
 use Rattle.switch_staged.specs.declared.cells.Taken.{Taken}
 use Rattle.switch_staged.specs.declared.flight.Act.TheVariants.{Keep, Absorb, Raise, Bind, Clear}
-use Rattle.switch_staged.specs.declared.flight.Flight.{Flight}
+use Rattle.switch_staged.specs.declared.flight.Course.{Course}
 use Rattle.switch_staged.specs.declared.flight.Part.TheVariants.{Stays, Same, Whole}
 use Rattle.switch_staged.specs.Heads.{writes, is_own, act_for, acted, head_after, empty_head, bare, cells_of_body, body_after, gate_after, goes_on, place_for, bound_after, new_num, new_body}
 use Rattle.switch_staged.specs.Stages.{head_at, met, taken_after, part_for, no_taken, wants_part, leaves_now, is_base, head_mark, PlaceBelow, key_touched, changes_record, entered}
@@ -30,7 +30,7 @@ use Rattle.switch_staged.proofs.HitLaws.{old_taken, heads_own, heads_other, take
 -- ---- the first change
 
 -- what the stages leave where the slot's record changes, and where its part leaves
-abbrev pub Left : SwitchView → ℕ → SlotView → SlotView → Flight → Taken → Option Out → Passed
+abbrev pub Left : SwitchView → ℕ → SlotView → SlotView → Course → Taken → Option Out → Passed
 Left v i old slot f t out = record {
   view = record v { slots = slice_set v.slots i slot; taken = slice_set v.taken i (taken_after f t).era; shown = slice_set v.shown i (taken_after f t).mark };
   first = out;
@@ -38,21 +38,21 @@ Left v i old slot f t out = record {
 }
 
 -- the view with the era and the base of the flight
-abbrev pub in_time : SwitchView → Flight → SwitchView
+abbrev pub in_time : SwitchView → Course → SwitchView
 in_time v f = record v { snap = f.gate.snap; base = f.gate.base }
 
-base_is : (v : SwitchView) (f : Flight) (t : Taken) (bytes : List ℕ) → is_base f t ≡ before_at (in_time v f) (slot_of f.found bytes) t.era t.mark
+base_is : (v : SwitchView) (f : Course) (t : Taken) (bytes : List ℕ) → is_base f t ≡ before_at (in_time v f) (slot_of f.found bytes) t.era t.mark
 unfolding is_base
 base_is v f t bytes = ap (λ m. nat_lt 0 f.gate.base && (nat_eq t.era f.gate.base && same_mark t.mark m)) (mark_is f.found bytes)
 
-abbrev pub Flagged : SwitchView → ℕ → Flight → Taken → SlotView → SlotView → Option Out → Bool → Passed
+abbrev pub Flagged : SwitchView → ℕ → Course → Taken → SlotView → SlotView → Option Out → Bool → Passed
 Flagged v i f t slot old out leaves = record {
   view = record (in_time v f) { slots = slice_set v.slots i slot; taken = slice_set v.taken i (if leaves then record { era = f.gate.snap; mark = head_mark f.found } else t).era; shown = slice_set v.shown i (if leaves then record { era = f.gate.snap; mark = head_mark f.found } else t).mark };
   first = out;
   second = part_out f.gate.snap (Some i) (if leaves then (if is_base f t then Same else Whole) else Stays) old;
 }
 
-abbrev pub Other : SwitchView → ℕ → Flight → Taken → SlotView → SlotView → Option Out → Bool → Passed
+abbrev pub Other : SwitchView → ℕ → Course → Taken → SlotView → SlotView → Option Out → Bool → Passed
 Other v i f t slot old out e = record {
   view = if e then with_slot (in_time v f) i slot else with_taken (with_slot (in_time v f) i slot) i (held_record old);
   first = out;
@@ -63,7 +63,7 @@ one_part : (v : SwitchView) (i : ℕ) (old : SlotView) (k : Bool) → part_out v
 one_part v i old true = refl
 one_part v i old false = refl
 
-changed_at : (v : SwitchView) (i : ℕ) (f : Flight) (t : Taken) (slot : SlotView) (bytes : List ℕ) (out : Option Out) → slice_index_or v.taken i 0 ≡ t.era → slice_index_or v.shown i None ≡ t.mark
+changed_at : (v : SwitchView) (i : ℕ) (f : Course) (t : Taken) (slot : SlotView) (bytes : List ℕ) (out : Option Out) → slice_index_or v.taken i 0 ≡ t.era → slice_index_or v.shown i None ≡ t.mark
     → (e : Bool) → Flagged v i f t slot (slot_of f.found bytes) out (not e) ≡ Other v i f t slot (slot_of f.found bytes) out e
 changed_at v i f t slot bytes out et mt true =
     ap (λ es. record { view = record (in_time v f) { slots = slice_set v.slots i slot; taken = es; shown = slice_set v.shown i t.mark }; first = out; second = None }) (ap (slice_set v.taken i) (sym et) ∙ set_same v.taken i 0)
@@ -73,7 +73,7 @@ changed_at v i f t slot bytes out et mt false =
     ∙ ap (λ s. record { view = with_taken (with_slot (in_time v f) i slot) i (held_record (slot_of f.found bytes)); first = out; second = s })
     (ap (λ k. part_out f.gate.snap (Some i) (if k then Same else Whole) (slot_of f.found bytes)) (base_is v f t bytes) ∙ one_part (in_time v f) i (slot_of f.found bytes) _)
 
-pub changed : (v : SwitchView) (i : ℕ) (f : Flight) (t : Taken) (slot : SlotView) (bytes : List ℕ) (out : Option Out) → wants_part f f.packet ≡ true
+pub changed : (v : SwitchView) (i : ℕ) (f : Course) (t : Taken) (slot : SlotView) (bytes : List ℕ) (out : Option Out) → wants_part f f.packet ≡ true
     → slice_index_or v.taken i 0 ≡ t.era → slice_index_or v.shown i None ≡ t.mark
     → Left (in_time v f) i (slot_of f.found bytes) slot f t out ≡ changes_at (in_time v f) i (slot_of f.found bytes) t.era t.mark slot out
 unfolding taken_after
@@ -81,7 +81,7 @@ changed v i f t slot bytes out w et mt =
     ap (λ b. Flagged v i f t slot (slot_of f.found bytes) out (b && not (nat_eq t.era f.gate.snap))) w
     ∙ changed_at v i f t slot bytes out et mt (nat_eq t.era f.gate.snap)
 
-pub unchanged : (v : SwitchView) (i : ℕ) (f : Flight) (t : Taken) (slot old : SlotView) (out : Option Out) → wants_part f f.packet ≡ false
+pub unchanged : (v : SwitchView) (i : ℕ) (f : Course) (t : Taken) (slot old : SlotView) (out : Option Out) → wants_part f f.packet ≡ false
     → slice_index_or v.taken i 0 ≡ t.era → slice_index_or v.shown i None ≡ t.mark
     → Left (in_time v f) i old slot f t out ≡ record { view = with_slot (in_time v f) i slot; first = out; second = None }
 unfolding taken_after
@@ -96,11 +96,11 @@ abbrev pub row_bytes : Registers → ℕ → List ℕ
 row_bytes r i = joined (row i r.arrays)
 
 -- the flight after all stages
-abbrev pub landed : Registers → ℕ → Flight → Flight
+abbrev pub landed : Registers → ℕ → Course → Course
 landed r i f = record (met (head_at r.heads i) f) { part = part_for (met (head_at r.heads i) f) (old_taken r i); hot = false; cells = row i r.arrays }
 
 -- the slot after it
-abbrev pub slot_after : Registers → ℕ → Flight → SlotView
+abbrev pub slot_after : Registers → ℕ → Course → SlotView
 slot_after r i f = slot_of (acted (act_for f.packet (head_at r.heads i)) f.gate.counter f.packet (head_at r.heads i))
     (joined (bytes_left (cells_of_body (body_after (act_for f.packet (head_at r.heads i)) f.packet)) (row i r.arrays) (writes (act_for f.packet (head_at r.heads i)))))
 
@@ -112,7 +112,7 @@ pub body_cells : (body : Option (List ℕ)) → length (cells_of_body body) ≡ 
 unfolding cells_of_body cut_cells
 body_cells body = cut_length BODY_CELLS (padded 256 (text_of body))
 
-pub own_passes : (config : Config) (r : Registers) (f : Flight) (i : ℕ) → Fits config r → i < config.slots → f.place ≡ Some i → is_own f.packet (head_at r.heads i) ≡ true
+pub own_passes : (config : Config) (r : Registers) (f : Course) (i : ℕ) → Fits config r → i < config.slots → f.place ≡ Some i → is_own f.packet (head_at r.heads i) ≡ true
     → from_heads config r f ≡ record {
       view = record (view_of config r) { slots = slice_set (slots_of config.slots r.heads r.arrays) i (slot_after r i f); taken = slice_set (eras_of r.taken) i (taken_after (met (head_at r.heads i) f) (old_taken r i)).era; shown = slice_set (marks_of r.taken) i (taken_after (met (head_at r.heads i) f) (old_taken r i)).mark };
       first = first_out config (landed r i f);

@@ -18,3 +18,7 @@ pub mod ShiftLaws
 pub mod PipeLaws
 pub mod BodyLaws
 pub mod GatherLaws
+pub mod FrontLaws
+pub mod GroupLaws
+pub mod CountLaws
+pub mod LookupLaws

@@ -10,7 +10,7 @@ use Rattle.far_model.specs.View.{SwitchView, HotCell}
 use Rattle.switch_core.specs.Plain.{emit_of}
 use Rattle.switch_core.specs.declared.switch.Emit.{Emit}
 use Rattle.switch_staged.specs.declared.cells.Taken.{Taken}
-use Rattle.switch_staged.specs.declared.flight.Flight.{Flight}
+use Rattle.switch_staged.specs.declared.flight.Course.{Course}
 use Rattle.switch_staged.specs.Changes.{ended}
 use Rattle.switch_staged.specs.Emits.{first_out, second_out}
 use Rattle.switch_staged.specs.Heads.{gate_after, is_own}
@@ -33,7 +33,7 @@ next_stage k n e = omega (arith, e)
 no_stages : (n : ℕ) → 0 ≡ suc n → ⊥
 no_stages n e = omega (arith, e)
 
-bodies_tick : (k : ℕ) (config : Config) (first : Registers) (arrays : List (List (List ℕ))) (waiting : List (Option Flight)) (w : Option Flight) (before came left : List Packet) → Fits config first
+bodies_tick : (k : ℕ) (config : Config) (first : Registers) (arrays : List (List (List ℕ))) (waiting : List (Option Course)) (w : Option Course) (before came left : List Packet) → Fits config first
     → k + length arrays ≡ 32 → length arrays ≡ length waiting → Waits (before_body k config) config first w before came → Bodies k config first arrays waiting came left
     → (now_left : List Packet) × Bodies k config first (stepped k arrays waiting) (shifted k arrays waiting w) before now_left × Waits (before_body 32 config) config first (gone k arrays waiting w) now_left left
 bodies_tick k config first [] [] w before came left fits n l h b =
@@ -58,12 +58,12 @@ table_now : (v : PipelineView) (first : Registers) (all past_gate : List Packet)
 table_now v first all past_gate None e g = e ∙ append-nil past_gate
 table_now v first all past_gate (Some p) e g = (p, e, ap (λ x. entered v.config x p) g)
 
-stepped_length : (k : ℕ) (arrays : List (List (List ℕ))) (waiting : List (Option Flight)) → length (stepped k arrays waiting) ≡ length arrays
+stepped_length : (k : ℕ) (arrays : List (List (List ℕ))) (waiting : List (Option Course)) → length (stepped k arrays waiting) ≡ length arrays
 stepped_length k [] waiting = refl
 stepped_length k (a ∷ arrays) [] = refl
 stepped_length k (a ∷ arrays) (w ∷ waiting) = ap suc (stepped_length (suc k) arrays waiting)
 
-shifted_length : (k : ℕ) (arrays : List (List (List ℕ))) (waiting : List (Option Flight)) (coming : Option Flight) → length arrays ≡ length waiting → length (shifted k arrays waiting coming) ≡ length waiting
+shifted_length : (k : ℕ) (arrays : List (List (List ℕ))) (waiting : List (Option Course)) (coming : Option Course) → length arrays ≡ length waiting → length (shifted k arrays waiting coming) ≡ length waiting
 shifted_length k [] waiting coming l = refl
 shifted_length k (a ∷ arrays) [] coming l = refl
 shifted_length k (a ∷ arrays) (w ∷ waiting) coming l = ap suc (shifted_length (suc k) arrays waiting (sent (carried k) a w) (grind (arith, l)))
@@ -108,10 +108,10 @@ tick_overlaps v first all left o =
 
 -- ---- the packets inside
 
-pub waits_is : (config : Config) (first : Registers) (flight : Registers → Packet → Flight) (w : Option Flight) (came gone : List Packet) → ((r : Registers) (p : Packet) → (flight r p).packet ≡ p)
+pub waits_is : (config : Config) (first : Registers) (flight : Registers → Packet → Course) (w : Option Course) (came gone : List Packet) → ((r : Registers) (p : Packet) → (flight r p).packet ≡ p)
     → Waits flight config first w came gone → came ≡ gone ++ one_packet (packet_of w)
 waits_is config first flight None came gone k h = h ∙ sym (append-nil gone)
-waits_is config first flight (Some f) came gone k h = h.1 ∙ ap (λ p. gone ++ p ∷ []) (sym (ap (λ (g : Flight). g.packet) h.2 ∙ k (through config first gone) h.0))
+waits_is config first flight (Some f) came gone k h = h.1 ∙ ap (λ p. gone ++ p ∷ []) (sym (ap (λ (g : Course). g.packet) h.2 ∙ k (through config first gone) h.0))
 
 pub headed_packet : (config : Config) (r : Registers) (p : Packet) → (before_taken config r p).packet ≡ p
 headed_packet config r p = by (before_heads config r p).place
@@ -124,15 +124,15 @@ headed_packet config r p = by (before_heads config r p).place
     by None = refl
     by (Some i) = own i (is_own p (head_at r.heads i))
 
-pub parted_packet : (taken : List Taken) (q : Option ℕ) (f : Flight) → (parted_at taken q f).packet ≡ f.packet
+pub parted_packet : (taken : List Taken) (q : Option ℕ) (f : Course) → (parted_at taken q f).packet ≡ f.packet
 parted_packet taken None f = refl
 parted_packet taken (Some i) f = refl
 
-pub carry_packet : (q : Option ℕ) (at : ℕ) (array : List (List ℕ)) (f : Flight) → (carry_at q at array f).packet ≡ f.packet
+pub carry_packet : (q : Option ℕ) (at : ℕ) (array : List (List ℕ)) (f : Course) → (carry_at q at array f).packet ≡ f.packet
 carry_packet None at array f = refl
 carry_packet (Some i) at array f = refl
 
-carries_packet : (at : ℕ) (arrays : List (List (List ℕ))) (f : Flight) → (carried_all at arrays f).packet ≡ f.packet
+carries_packet : (at : ℕ) (arrays : List (List (List ℕ))) (f : Course) → (carried_all at arrays f).packet ≡ f.packet
 carries_packet at [] f = refl
 carries_packet at (a ∷ arrays) f = carries_packet (suc at) arrays (carried at a f) ∙ carry_packet f.place at a f
 
@@ -141,7 +141,7 @@ body_packet k config r p = carries_packet 0 (take k r.arrays) (before_bodies con
     ∙ parted_packet r.taken (before_taken config r p).place (before_taken config r p)
     ∙ headed_packet config r p
 
-bodies_are : (k : ℕ) (config : Config) (first : Registers) (arrays : List (List (List ℕ))) (waiting : List (Option Flight)) (came left : List Packet) → length arrays ≡ length waiting
+bodies_are : (k : ℕ) (config : Config) (first : Registers) (arrays : List (List (List ℕ))) (waiting : List (Option Course)) (came left : List Packet) → length arrays ≡ length waiting
     → Bodies k config first arrays waiting came left → came ≡ left ++ oldest_first (map packet_of waiting)
 bodies_are k config first [] [] came left l b = b ∙ sym (append-nil left)
 bodies_are k config first [] (w ∷ waiting) came left l b = absurd (no_stages (length waiting) l)
@@ -173,7 +173,7 @@ short_last : (ps : List Packet) (p : Packet) → AllByRecursion IsShort (ps ++ p
 short_last [] p h = h.0
 short_last (q ∷ ps) p h = short_last ps p h.1
 
-out_is : (config : Config) (first : Registers) (start : SwitchView) (w : Option Flight) (now_left left : List Packet) → Fits config first → view_of config first ≡ start → AllByRecursion IsShort now_left
+out_is : (config : Config) (first : Registers) (start : SwitchView) (w : Option Course) (now_left left : List Packet) → Fits config first → view_of config first ≡ start → AllByRecursion IsShort now_left
     → Waits (before_body 32 config) config first w now_left left → answers start now_left ≡ answers start left ++ given (answer_of config w)
 out_is config first start None now_left left fits e short h = ap (answers start) h ∙ sym (append-nil (answers start left))
 out_is config first start (Some f) now_left left fits e short h =

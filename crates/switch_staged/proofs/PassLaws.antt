@@ -1,11 +1,12 @@
 -- The loop over the arrays of the bodies, one array further.
 use Rattle.std.proofs.Common.{◌≡◌, ℕ, zero, suc, ◌+◌, ◌*◌, ◌<◌, ◌≤◌, Bool, true, false, List, [], ◌∷◌, ◌++◌, length, map, take, drop, replicate, sym, refl, ap, ◌∙◌, subst, arith, rules, Option, None, Some}
-use Rattle.std.specs.Prelude.{slice_set, slice_index_or}
-use Rattle.std.proofs.lemmas.List.{take_more_set, append_assoc, length-set, drop_more, map-set, length-map, map-append, replicate-append-replicate, take_all}
+use Rattle.std.specs.Prelude.{slice_set, slice_index_or, nat_lt}
+use Rattle.std.proofs.lemmas.Bool.Decides.{nat_tests}
+use Rattle.std.proofs.lemmas.List.{take_more, take_more_set, append_assoc, length-set, drop_more, map-set, length-map, map-append, replicate-append-replicate, take_all}
 use Rattle.register_stages.specs.declared.array.RegArray.{RegArray}
 use Rattle.register_stages.specs.Arrays.{cells_of, place_of}
-use Rattle.switch_staged.specs.declared.flight.Flight.{Flight}
-use Rattle.switch_staged.specs.Stages.{InReach, IsPart, PlaceBelow, all_cells, array_at, array_after, carry_at, carried, arrays_after, carried_all, cell_after}
+use Rattle.switch_staged.specs.declared.flight.Course.{Course}
+use Rattle.switch_staged.specs.Stages.{InReach, IsPart, PlaceBelow, all_cells, array_at, array_after, carry_at, carried, arrays_after, carried_all, cell_after, token_behind}
 use Rattle.switch_staged.specs.Rows.{zero_cell}
 
 one_more : (k : ℕ) → k + 1 ≡ suc k
@@ -25,6 +26,12 @@ part_place first slots [] k d p b = absurd (omega (arith, b))
 part_place first slots (a ∷ rest) zero d p b = omega (arith, p.0)
 part_place first slots (a ∷ rest) (suc k) d p b = omega (arith, part_place (suc first) slots rest k d p.2 (grind (arith, b)))
 
+pub behind_next : (first k token t place : ℕ) → place ≡ first + k → t ≡ place + 1 → t ≡ token_behind (k + 1) first token
+behind_next first k token t place p e =
+    let b : nat_lt 0 (k + 1) ≡ true = grind (arith, nat_tests) in
+    let n : t ≡ first + (k + 1) = omega (arith, p, e) in
+    rw b n
+
 pub part_slots : (first slots : ℕ) (arrays : List (RegArray (List ℕ))) (k : ℕ) (d : RegArray (List ℕ)) → IsPart first slots arrays → k < length arrays → length (cells_of (slice_index_or arrays k d)) ≡ slots
 part_slots first slots [] k d p b = absurd (omega (arith, b))
 part_slots first slots (a ∷ rest) zero d p b = p.1
@@ -39,15 +46,15 @@ pub in_reach : (place : Option ℕ) (slots : ℕ) (cells : List (List ℕ)) → 
 in_reach None slots cells p l = tt
 in_reach (Some i) slots cells p l = subst (λ n. i < n) (sym l) p
 
-pub array_length : (place : Option ℕ) (at : ℕ) (array : List (List ℕ)) (f : Flight) → length (array_at place at array f) ≡ length array
+pub array_length : (place : Option ℕ) (at : ℕ) (array : List (List ℕ)) (f : Course) → length (array_at place at array f) ≡ length array
 array_length None at array f = refl
 array_length (Some i) at array f = length-set _ _ _
 
-pub carry_place : (place : Option ℕ) (at : ℕ) (array : List (List ℕ)) (f : Flight) → (carry_at place at array f).place ≡ f.place
+pub carry_place : (place : Option ℕ) (at : ℕ) (array : List (List ℕ)) (f : Course) → (carry_at place at array f).place ≡ f.place
 carry_place None at array f = refl
 carry_place (Some i) at array f = refl
 
-pub carry_act : (place : Option ℕ) (at : ℕ) (array : List (List ℕ)) (f : Flight) → (carry_at place at array f).act ≡ f.act
+pub carry_act : (place : Option ℕ) (at : ℕ) (array : List (List ℕ)) (f : Course) → (carry_at place at array f).act ≡ f.act
 carry_act None at array f = refl
 carry_act (Some i) at array f = refl
 
@@ -60,36 +67,48 @@ pub all_length : (arrays : List (RegArray (List ℕ))) → length (all_cells arr
 all_length [] = refl
 all_length (a ∷ rest) = ap suc (all_length rest)
 
-pub cells_step : (k : ℕ) (arrays : List (RegArray (List ℕ))) (d a : RegArray (List ℕ)) (f after : Flight) → k < length arrays
-    → cells_of a ≡ array_after k (cells_of (slice_index_or arrays k d)) f → after ≡ carried k (cells_of (slice_index_or arrays k d)) f
-    → take (k + 1) (all_cells (slice_set arrays k a)) ++ arrays_after (k + 1) (drop (k + 1) (all_cells (slice_set arrays k a))) after ≡ take k (all_cells arrays) ++ arrays_after k (drop k (all_cells arrays)) f
-cells_step k arrays d a f after b e g =
+next_at : (first k : ℕ) → first + (k + 1) ≡ suc (first + k)
+next_at first k = omega arith
+
+pub cells_step : (first k : ℕ) (arrays : List (RegArray (List ℕ))) (d a : RegArray (List ℕ)) (f after : Course) → k < length arrays
+    → cells_of a ≡ array_after (first + k) (cells_of (slice_index_or arrays k d)) f → after ≡ carried (first + k) (cells_of (slice_index_or arrays k d)) f
+    → take (k + 1) (all_cells (slice_set arrays k a)) ++ arrays_after (first + (k + 1)) (drop (k + 1) (all_cells (slice_set arrays k a))) after ≡ take k (all_cells arrays) ++ arrays_after (first + k) (drop k (all_cells arrays)) f
+cells_step first k arrays d a f after b e g =
     let n : k < length (all_cells arrays) = subst (λ m. k < m) (sym (all_length arrays)) b in
     let at : slice_index_or (all_cells arrays) k [] ≡ cells_of (slice_index_or arrays k d) = get_map arrays k d b in
     let split : drop k (all_cells arrays) ≡ cells_of (slice_index_or arrays k d) ∷ drop (k + 1) (all_cells arrays) =
     drop_more (all_cells arrays) k [] n ∙ ap (λ r. r ∷ drop (k + 1) (all_cells arrays)) at in
     let set : all_cells (slice_set arrays k a) ≡ slice_set (all_cells arrays) k (cells_of a) = map-set cells_of arrays k a in
-    ap (λ r. take (k + 1) r ++ arrays_after (k + 1) (drop (k + 1) r) after) set
-    ∙ ap (λ r. r ++ arrays_after (k + 1) (drop (k + 1) (slice_set (all_cells arrays) k (cells_of a))) after) (take_more_set (all_cells arrays) k (cells_of a) n)
+    ap (λ r. take (k + 1) r ++ arrays_after (first + (k + 1)) (drop (k + 1) r) after) set
+    ∙ ap (λ r. r ++ arrays_after (first + (k + 1)) (drop (k + 1) (slice_set (all_cells arrays) k (cells_of a))) after) (take_more_set (all_cells arrays) k (cells_of a) n)
     ∙ append_assoc (take k (all_cells arrays)) (cells_of a ∷ []) _
-    ∙ ap (λ r. take k (all_cells arrays) ++ (cells_of a ∷ arrays_after (k + 1) r after)) (drop_set k (all_cells arrays) (cells_of a))
-    ∙ ap (λ m. take k (all_cells arrays) ++ (cells_of a ∷ arrays_after m (drop (k + 1) (all_cells arrays)) after)) (one_more k)
-    ∙ ap (λ x. take k (all_cells arrays) ++ (x ∷ arrays_after (suc k) (drop (k + 1) (all_cells arrays)) after)) e
-    ∙ ap (λ x. take k (all_cells arrays) ++ (array_after k (cells_of (slice_index_or arrays k d)) f ∷ arrays_after (suc k) (drop (k + 1) (all_cells arrays)) x)) g
-    ∙ ap (λ r. take k (all_cells arrays) ++ arrays_after k r f) (sym split)
+    ∙ ap (λ r. take k (all_cells arrays) ++ (cells_of a ∷ arrays_after (first + (k + 1)) r after)) (drop_set k (all_cells arrays) (cells_of a))
+    ∙ ap (λ m. take k (all_cells arrays) ++ (cells_of a ∷ arrays_after m (drop (k + 1) (all_cells arrays)) after)) (next_at first k)
+    ∙ ap (λ x. take k (all_cells arrays) ++ (x ∷ arrays_after (suc (first + k)) (drop (k + 1) (all_cells arrays)) after)) e
+    ∙ ap (λ x. take k (all_cells arrays) ++ (array_after (first + k) (cells_of (slice_index_or arrays k d)) f ∷ arrays_after (suc (first + k)) (drop (k + 1) (all_cells arrays)) x)) g
+    ∙ ap (λ r. take k (all_cells arrays) ++ arrays_after (first + k) r f) (sym split)
 
-pub flight_step : (k : ℕ) (arrays : List (RegArray (List ℕ))) (d a : RegArray (List ℕ)) (f after : Flight) → k < length arrays
-    → after ≡ carried k (cells_of (slice_index_or arrays k d)) f
-    → carried_all (k + 1) (drop (k + 1) (all_cells (slice_set arrays k a))) after ≡ carried_all k (drop k (all_cells arrays)) f
-flight_step k arrays d a f after b g =
+pub flight_step : (first k : ℕ) (arrays : List (RegArray (List ℕ))) (d a : RegArray (List ℕ)) (f after : Course) → k < length arrays
+    → after ≡ carried (first + k) (cells_of (slice_index_or arrays k d)) f
+    → carried_all (first + (k + 1)) (drop (k + 1) (all_cells (slice_set arrays k a))) after ≡ carried_all (first + k) (drop k (all_cells arrays)) f
+flight_step first k arrays d a f after b g =
     let n : k < length (all_cells arrays) = subst (λ m. k < m) (sym (all_length arrays)) b in
     let split : drop k (all_cells arrays) ≡ cells_of (slice_index_or arrays k d) ∷ drop (k + 1) (all_cells arrays) =
     drop_more (all_cells arrays) k [] n ∙ ap (λ r. r ∷ drop (k + 1) (all_cells arrays)) (get_map arrays k d b) in
-    ap (λ r. carried_all (k + 1) (drop (k + 1) r) after) (map-set cells_of arrays k a)
-    ∙ ap (λ r. carried_all (k + 1) r after) (drop_set k (all_cells arrays) (cells_of a))
-    ∙ ap (λ m. carried_all m (drop (k + 1) (all_cells arrays)) after) (one_more k)
-    ∙ ap (carried_all (suc k) (drop (k + 1) (all_cells arrays))) g
-    ∙ ap (λ r. carried_all k r f) (sym split)
+    ap (λ r. carried_all (first + (k + 1)) (drop (k + 1) r) after) (map-set cells_of arrays k a)
+    ∙ ap (λ r. carried_all (first + (k + 1)) r after) (drop_set k (all_cells arrays) (cells_of a))
+    ∙ ap (λ m. carried_all m (drop (k + 1) (all_cells arrays)) after) (next_at first k)
+    ∙ ap (carried_all (suc (first + k)) (drop (k + 1) (all_cells arrays))) g
+    ∙ ap (λ r. carried_all (first + k) r f) (sym split)
+
+-- one more array is as the one that it is a copy of
+pub copy_more : (k : ℕ) (copy arrays : List (RegArray (List ℕ))) (d a : RegArray (List ℕ)) → k < length arrays → all_cells copy ≡ take k (all_cells arrays) → cells_of a ≡ cells_of (slice_index_or arrays k d)
+    → all_cells (copy ++ a ∷ []) ≡ take (k + 1) (all_cells arrays)
+copy_more k copy arrays d a b h e =
+    map-append cells_of copy (a ∷ [])
+    ∙ ap (λ r. r ++ cells_of a ∷ []) h
+    ∙ ap (λ c. take k (all_cells arrays) ++ c ∷ []) (e ∙ sym (get_map arrays k d b))
+    ∙ sym (take_more (all_cells arrays) k [] (subst (λ m. k < m) (sym (all_length arrays)) b))
 
 pub part_more : (first slots : ℕ) (arrays : List (RegArray (List ℕ))) (a : RegArray (List ℕ)) → IsPart first slots arrays → place_of a ≡ first + length arrays → length (cells_of a) ≡ slots → IsPart first slots (arrays ++ a ∷ [])
 part_more first slots [] a p e l = (omega (arith, e), l, tt)

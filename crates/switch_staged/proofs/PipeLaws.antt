@@ -9,7 +9,7 @@ use Rattle.switch_core.specs.declared.switch.Emit.{Emit}
 use Rattle.switch_staged.specs.declared.cells.Gate.{Gate}
 use Rattle.switch_staged.specs.declared.cells.Head.{Head}
 use Rattle.switch_staged.specs.declared.cells.Taken.{Taken}
-use Rattle.switch_staged.specs.declared.flight.Flight.{Flight}
+use Rattle.switch_staged.specs.declared.flight.Course.{Course}
 use Rattle.far_base.specs.declared.packet.Packet.TheVariants.{WriteReq, SnapStart, SnapFrom}
 use Rattle.switch_staged.specs.Heads.{is_own, gate_after, set_snap}
 use Rattle.switch_staged.specs.Line.{final, answers}
@@ -32,11 +32,11 @@ from_gate : (config : Config) (g : Gate) (w : Option Packet) → packet_of (sent
 from_gate config g None = refl
 from_gate config g (Some p) = refl
 
-from_table : (bound : List (Option (List ℕ))) (w : Option Flight) → packet_of (sent looked_up bound w) ≡ packet_of w
+from_table : (bound : List (Option (List ℕ))) (w : Option Course) → packet_of (sent looked_up bound w) ≡ packet_of w
 from_table bound None = refl
 from_table bound (Some f) = refl
 
-headed_keeps : (heads : List Head) (f : Flight) → (headed heads f).packet ≡ f.packet
+headed_keeps : (heads : List Head) (f : Course) → (headed heads f).packet ≡ f.packet
 headed_keeps heads f = by f.place
   where
     own : (i : ℕ) (x : Bool) → (if x then met (head_at heads i) f else missed f).packet ≡ f.packet
@@ -47,22 +47,22 @@ headed_keeps heads f = by f.place
     by None = refl
     by (Some i) = own i (is_own f.packet (head_at heads i))
 
-from_heads : (heads : List Head) (w : Option Flight) → packet_of (sent headed heads w) ≡ packet_of w
+from_heads : (heads : List Head) (w : Option Course) → packet_of (sent headed heads w) ≡ packet_of w
 from_heads heads None = refl
 from_heads heads (Some f) = ap Some (headed_keeps heads f)
 
-from_taken : (v : PipelineView) (w : Option Flight) → packet_of (past (record v { taken = w })) ≡ packet_of w
+from_taken : (v : PipelineView) (w : Option Course) → packet_of (past (record v { taken = w })) ≡ packet_of w
 from_taken v None = refl
 from_taken v (Some f) = ap Some (parted_packet v.registers.taken f.place f)
 
-from_body : (k : ℕ) (a : List (List ℕ)) (w : Option Flight) → packet_of (sent (carried k) a w) ≡ packet_of w
+from_body : (k : ℕ) (a : List (List ℕ)) (w : Option Course) → packet_of (sent (carried k) a w) ≡ packet_of w
 from_body k a None = refl
 from_body k a (Some f) = ap Some (carry_packet f.place k a f)
 
 uneven : (n : ℕ) → 0 ≡ suc n → ⊥
 uneven n e = omega (arith, e)
 
-shifted_packets : (k : ℕ) (arrays : List (List (List ℕ))) (waiting : List (Option Flight)) (c : Option Flight) → length arrays ≡ length waiting
+shifted_packets : (k : ℕ) (arrays : List (List (List ℕ))) (waiting : List (Option Course)) (c : Option Course) → length arrays ≡ length waiting
     → map packet_of (shifted k arrays waiting c) ≡ take (length waiting) (packet_of c ∷ map packet_of waiting)
 shifted_packets k [] [] c l = refl
 shifted_packets k [] (w ∷ waiting) c l = absurd (uneven (length waiting) l)
@@ -71,7 +71,7 @@ shifted_packets k (a ∷ arrays) (w ∷ waiting) c l = ap (λ r. packet_of c ∷
     (shifted_packets (suc k) arrays waiting (sent (carried k) a w) (grind (arith, l))
     ∙ ap (λ p. take (length waiting) (p ∷ map packet_of waiting)) (from_body k a w))
 
-gone_packet : (k : ℕ) (arrays : List (List (List ℕ))) (waiting : List (Option Flight)) (c : Option Flight) → length arrays ≡ length waiting
+gone_packet : (k : ℕ) (arrays : List (List (List ℕ))) (waiting : List (Option Course)) (c : Option Course) → length arrays ≡ length waiting
     → packet_of (gone k arrays waiting c) ≡ slice_index_or (packet_of c ∷ map packet_of waiting) (length waiting) None
 gone_packet k [] [] c l = refl
 gone_packet k [] (w ∷ waiting) c l = absurd (uneven (length waiting) l)
@@ -91,7 +91,7 @@ standing_ticks v n m =
     ∙ ap (λ p. take (length v.bodies) (p ∷ map packet_of v.bodies)) (from_taken v v.taken)
     ∙ ap (λ k. take k (packet_of v.taken ∷ map packet_of v.bodies)) m)
 
-answers_packet : (config : Config) (w : Option Flight) → is_none (answer_of config w) ≡ is_none (packet_of w)
+answers_packet : (config : Config) (w : Option Course) → is_none (answer_of config w) ≡ is_none (packet_of w)
 answers_packet config None = refl
 answers_packet config (Some f) = refl
 
@@ -164,7 +164,7 @@ no_back (x ∷ xs) ys h = absurd (uneven (length (xs ++ ys)) (sym (ap length h))
 none_waits : (came gone : List Packet) (w : Option Packet) → came ≡ gone ++ one_packet w → one_packet w ≡ [] → came ≡ gone
 none_waits came gone w e h = e ∙ ap (λ ps. gone ++ ps) h ∙ append-nil gone
 
-settled : (k : ℕ) (config : Config) (first : Registers) (arrays : List (List (List ℕ))) (waiting : List (Option Flight)) (came left : List Packet) → length arrays ≡ length waiting
+settled : (k : ℕ) (config : Config) (first : Registers) (arrays : List (List (List ℕ))) (waiting : List (Option Course)) (came left : List Packet) → length arrays ≡ length waiting
     → k + length arrays ≡ length (through config first came).arrays → oldest_first (map packet_of waiting) ≡ [] → Bodies k config first arrays waiting came left → arrays ≡ drop k (through config first came).arrays
 settled k config first [] waiting came left l n h b = sym (all_dropped k (through config first came).arrays (omega (arith, n)))
   where
@@ -235,19 +235,19 @@ same_pipeline v w c r e t h k b =
     ∙ ap (λ x. record w { taken = x; bodies = v.bodies }) k
     ∙ ap (λ x. record w { bodies = x }) b
 
-pub bound_kept : (bound : List (Option (List ℕ))) (w : Option Flight) → length (kept table_after bound w) ≡ length bound
+pub bound_kept : (bound : List (Option (List ℕ))) (w : Option Course) → length (kept table_after bound w) ≡ length bound
 bound_kept bound None = refl
 bound_kept bound (Some f) = table_length bound f
 
-pub heads_kept : (heads : List Head) (w : Option Flight) → length (kept heads_after heads w) ≡ length heads
+pub heads_kept : (heads : List Head) (w : Option Course) → length (kept heads_after heads w) ≡ length heads
 heads_kept heads None = refl
 heads_kept heads (Some f) = heads_length heads f.place f
 
-pub taken_kept : (taken : List Taken) (w : Option Flight) → length (kept (λ cells f. taken_at_place cells f.place f) taken w) ≡ length taken
+pub taken_kept : (taken : List Taken) (w : Option Course) → length (kept (λ cells f. taken_at_place cells f.place f) taken w) ≡ length taken
 taken_kept taken None = refl
 taken_kept taken (Some f) = taken_length taken f.place f
 
-pub hot_kept : (config : Config) (taken : List Taken) (hot : List HotCell) (w : Option Flight) → length (kept (λ cells f. hots_after config cells (parted_at taken f.place f)) hot w) ≡ length hot
+pub hot_kept : (config : Config) (taken : List Taken) (hot : List HotCell) (w : Option Course) → length (kept (λ cells f. hots_after config cells (parted_at taken f.place f)) hot w) ≡ length hot
 hot_kept config taken hot None = refl
 hot_kept config taken hot (Some f) = hots_length config hot (parted_at taken f.place f)
 
@@ -258,23 +258,23 @@ gate_looks config g (Some p) = record {
   admits = admits_in config g p config.slots refl;
 }
 
-pub table_below : (n : ℕ) (bound : List (Option (List ℕ))) (w : Option Flight) → IfSome w (MayLook n) → length bound ≡ n → StaysBelow n (sent looked_up bound w)
+pub table_below : (n : ℕ) (bound : List (Option (List ℕ))) (w : Option Course) → IfSome w (MayLook n) → length bound ≡ n → StaysBelow n (sent looked_up bound w)
 table_below n bound None h e = tt
 table_below n bound (Some f) h e = h.place bound e
 
-pub heads_below : (n : ℕ) (heads : List Head) (w : Option Flight) → StaysBelow n w → StaysBelow n (sent headed heads w)
+pub heads_below : (n : ℕ) (heads : List Head) (w : Option Course) → StaysBelow n w → StaysBelow n (sent headed heads w)
 heads_below n heads None h = tt
 heads_below n heads (Some f) h = headed_in heads f n h
 
-pub taken_below : (n : ℕ) (config : Config) (hot : List HotCell) (taken : List Taken) (w : Option Flight) → StaysBelow n w → StaysBelow n (sent (λ cells f. warmed config hot (parted_at cells f.place f)) taken w)
+pub taken_below : (n : ℕ) (config : Config) (hot : List HotCell) (taken : List Taken) (w : Option Course) → StaysBelow n w → StaysBelow n (sent (λ cells f. warmed config hot (parted_at cells f.place f)) taken w)
 taken_below n config hot taken None h = tt
 taken_below n config hot taken (Some f) h = parted_in taken f f.place n h
 
-pub may_bind : (n m : ℕ) (w : Option Flight) → m ≡ n → IfSome w (MayLook n) → IfSome w (λ f. f.live ≡ true → AdmitsWithin m f.packet)
+pub may_bind : (n m : ℕ) (w : Option Course) → m ≡ n → IfSome w (MayLook n) → IfSome w (λ f. f.live ≡ true → AdmitsWithin m f.packet)
 may_bind n m None e h = tt
 may_bind n m (Some f) e h = λ live. subst (λ k. AdmitsWithin k f.packet) (sym e) (h.admits live)
 
-pub reach_there : {T : Type 0} (n : ℕ) (cells : List T) (w : Option Flight) → StaysBelow n w → length cells ≡ n → IfSome w (λ f. InReach f.place cells)
+pub reach_there : {T : Type 0} (n : ℕ) (cells : List T) (w : Option Course) → StaysBelow n w → length cells ≡ n → IfSome w (λ f. InReach f.place cells)
 reach_there n cells None b l = tt
 reach_there n cells (Some f) b l = reach_in f.place n cells b l
 

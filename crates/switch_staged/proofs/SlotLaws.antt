@@ -3,7 +3,7 @@ use Rattle.std.proofs.Common.{◌≡◌, ℕ, zero, suc, ◌+◌, ◌*◌, ◌<�
 use Rattle.std.specs.Prelude.{slice_set, slice_index_or, if◌then◌else◌}
 use Rattle.std.proofs.lemmas.List.{append_assoc, append-nil, length-set}
 use Rattle.switch_staged.specs.declared.cells.Head.{Head}
-use Rattle.switch_staged.specs.declared.flight.Flight.{Flight}
+use Rattle.switch_staged.specs.declared.flight.Course.{Course}
 use Rattle.switch_staged.specs.Heads.{writes}
 use Rattle.switch_staged.specs.Stages.{array_at, array_after, carry_at, carried, arrays_after, carried_all, cell_after}
 use Rattle.switch_staged.specs.Rows.{zero_cell, row, with_row, joined, all_bytes, beside, AreFull}
@@ -29,7 +29,7 @@ length_more [] x = refl
 length_more (d ∷ done) x = ap suc (length_more done x)
 
 -- the flight carries the old row away
-pub carries_row : (i at : ℕ) (done todo : List (List ℕ)) (arrays : List (List (List ℕ))) (f : Flight) → f.place ≡ Some i → f.cells ≡ done ++ todo → length done ≡ at → length todo ≡ length arrays
+pub carries_row : (i at : ℕ) (done todo : List (List ℕ)) (arrays : List (List (List ℕ))) (f : Course) → f.place ≡ Some i → f.cells ≡ done ++ todo → length done ≡ at → length todo ≡ length arrays
     → carried_all at arrays f ≡ record f { cells = done ++ row i arrays }
 carries_row i at done [] [] f p e n l = ap (λ cells. record f { cells = cells }) e
 carries_row i at done (c ∷ todo) [] f p e n l = absurd (omega (arith, l))
@@ -43,7 +43,7 @@ carries_row i at done (c ∷ todo) (a ∷ arrays) f p e n l =
     ∙ ap (λ r. record f { cells = r }) (append_assoc done (x ∷ []) (row i arrays))
 
 -- the new row is written
-pub writes_row : (i at : ℕ) (done todo : List (List ℕ)) (arrays : List (List (List ℕ))) (f : Flight) → f.place ≡ Some i → writes f.act ≡ true → f.cells ≡ done ++ todo → length done ≡ at → length todo ≡ length arrays
+pub writes_row : (i at : ℕ) (done todo : List (List ℕ)) (arrays : List (List (List ℕ))) (f : Course) → f.place ≡ Some i → writes f.act ≡ true → f.cells ≡ done ++ todo → length done ≡ at → length todo ≡ length arrays
     → arrays_after at arrays f ≡ with_row i arrays todo
 unfolding cell_after
 writes_row i at done [] [] f p w e n l = refl
@@ -59,7 +59,7 @@ writes_row i at done (c ∷ todo) (a ∷ arrays) f p w e n l =
     ∙ ap (λ r. r ∷ with_row i arrays todo) (ap (λ q. array_at q at a f) p ∙ ap (slice_set a i) new)
 
 -- nothing is written
-pub keeps_row : (i at : ℕ) (arrays : List (List (List ℕ))) (f : Flight) → f.place ≡ Some i → writes f.act ≡ false → arrays_after at arrays f ≡ arrays
+pub keeps_row : (i at : ℕ) (arrays : List (List (List ℕ))) (f : Course) → f.place ≡ Some i → writes f.act ≡ false → arrays_after at arrays f ≡ arrays
 unfolding cell_after
 keeps_row i at [] f p w = refl
 keeps_row i at (a ∷ arrays) f p w =
@@ -70,11 +70,11 @@ keeps_row i at (a ∷ arrays) f p w =
     ∙ ap (λ r. array_after at a f ∷ r) (keeps_row i (suc at) arrays (record f { cells = slice_set f.cells at x }) p w)
     ∙ ap (λ r. r ∷ arrays) (ap (λ q. array_at q at a f) p ∙ ap (slice_set a i) new ∙ set_same a i zero_cell)
 
-pub carries_nothing : (at : ℕ) (arrays : List (List (List ℕ))) (f : Flight) → f.place ≡ None → carried_all at arrays f ≡ f
+pub carries_nothing : (at : ℕ) (arrays : List (List (List ℕ))) (f : Course) → f.place ≡ None → carried_all at arrays f ≡ f
 carries_nothing at [] f p = refl
 carries_nothing at (a ∷ arrays) f p = ap (carried_all (suc at) arrays) (ap (λ q. carry_at q at a f) p) ∙ carries_nothing (suc at) arrays f p
 
-pub writes_nothing : (at : ℕ) (arrays : List (List (List ℕ))) (f : Flight) → f.place ≡ None → arrays_after at arrays f ≡ arrays
+pub writes_nothing : (at : ℕ) (arrays : List (List (List ℕ))) (f : Course) → f.place ≡ None → arrays_after at arrays f ≡ arrays
 writes_nothing at [] f p = refl
 writes_nothing at (a ∷ arrays) f p =
     ap (λ r. array_after at a f ∷ arrays_after (suc at) arrays r) (ap (λ q. carry_at q at a f) p)

@@ -10,7 +10,7 @@ use Rattle.register_stages.specs.Arrays.{cells_of}
 use Rattle.switch_staged.specs.declared.cells.Gate.{Gate}
 use Rattle.switch_staged.specs.declared.cells.Head.{Head}
 use Rattle.switch_staged.specs.declared.cells.Taken.{Taken}
-use Rattle.switch_staged.specs.declared.flight.Flight.{Flight}
+use Rattle.switch_staged.specs.declared.flight.Course.{Course}
 use Rattle.switch_staged.specs.Heads.{goes_on, place_for, bound_after, is_own}
 use Rattle.switch_staged.specs.Stages.{entered, looked_up, headed, headed_at, head_at, met, missed, parted_at, heads_after, heads_at, taken_at_place, table_after, PlaceBelow, InReach, AdmitsWithin, IsPart, all_cells}
 use Rattle.switch_staged.specs.Rows.{AreFull}
@@ -64,7 +64,7 @@ place_in config bound g (Told a b c d) e = tt
 place_in config bound g (TopAsk a) e = tt
 place_in config bound g (TopIs a b c) e = tt
 
-pub headed_in : (heads : List Head) (f : Flight) (n : ℕ) → PlaceBelow f.place n → PlaceBelow (headed heads f).place n
+pub headed_in : (heads : List Head) (f : Course) (n : ℕ) → PlaceBelow f.place n → PlaceBelow (headed heads f).place n
 headed_in heads f n b = by f.place b
   where
     own : (i : ℕ) (x : Bool) → PlaceBelow f.place n → PlaceBelow (if x then met (head_at heads i) f else missed f).place n
@@ -75,7 +75,7 @@ headed_in heads f n b = by f.place b
     by None b = b
     by (Some i) b = own i (is_own f.packet (head_at heads i)) b
 
-pub parted_in : (taken : List Taken) (f : Flight) (q : Option ℕ) (n : ℕ) → PlaceBelow f.place n → PlaceBelow (parted_at taken q f).place n
+pub parted_in : (taken : List Taken) (f : Course) (q : Option ℕ) (n : ℕ) → PlaceBelow f.place n → PlaceBelow (parted_at taken q f).place n
 parted_in taken f None n b = b
 parted_in taken f (Some i) n b = b
 
@@ -87,11 +87,11 @@ pub part_full : (first slots : ℕ) (arrays : List (RegArray (List ℕ))) → Is
 part_full first slots [] p = tt
 part_full first slots (a ∷ rest) p = (p.1, part_full (suc first) slots rest p.2)
 
-pub heads_length : (heads : List Head) (q : Option ℕ) (f : Flight) → length (heads_at heads q f) ≡ length heads
+pub heads_length : (heads : List Head) (q : Option ℕ) (f : Course) → length (heads_at heads q f) ≡ length heads
 heads_length heads None f = refl
 heads_length heads (Some i) f = length-set _ _ _
 
-pub taken_length : (taken : List Taken) (q : Option ℕ) (f : Flight) → length (taken_at_place taken q f) ≡ length taken
+pub taken_length : (taken : List Taken) (q : Option ℕ) (f : Course) → length (taken_at_place taken q f) ≡ length taken
 taken_length taken None f = refl
 taken_length taken (Some i) f = length-set _ _ _
 
@@ -100,7 +100,7 @@ unfolding bound_after
 bound_length bound (Admit epoch i key tag) = unbinds_length (length bound) i key bound refl
 bound_length bound _ = refl
 
-pub table_length : (bound : List (Option (List ℕ))) (f : Flight) → length (table_after bound f) ≡ length bound
+pub table_length : (bound : List (Option (List ℕ))) (f : Course) → length (table_after bound f) ≡ length bound
 table_length bound f = by f.live
   where
     by : (x : Bool) → length (if x then bound_after bound f.packet else bound) ≡ length bound
@@ -116,7 +116,7 @@ hots_set : (hot snap : ℕ) (cells : List HotCell) (q : Option (List ℕ)) → l
 hots_set hot snap cells None = refl
 hots_set hot snap cells (Some key) = length-set _ _ _
 
-pub hots_length : (config : Config) (cells : List HotCell) (f : Flight) → length (hots_after config cells f) ≡ length cells
+pub hots_length : (config : Config) (cells : List HotCell) (f : Course) → length (hots_after config cells f) ≡ length cells
 hots_length config cells f = hots_set config.hot f.gate.snap cells (touch_key f.place f.packet)
 
 pub gate_is_set : (gates : List Gate) (g : Gate) → length gates ≡ 1 → gate_of (slice_set gates 0 g) ≡ g
@@ -124,7 +124,7 @@ gate_is_set [] g e = absurd (omega (arith, e))
 gate_is_set (x ∷ xs) g e = refl
 
 -- the flights and the arrays, one stage after the other
-pub run_is : (config : Config) (r n : Registers) (p : Packet) (f1 f2 f3 f4 f5 f6 : Flight)
+pub run_is : (config : Config) (r n : Registers) (p : Packet) (f1 f2 f3 f4 f5 f6 : Course)
     → n.gate ≡ gate_after r.gate p → f1 ≡ entered config r.gate p
     → n.bound ≡ table_after r.bound f1 → f2 ≡ looked_up r.bound f1
     → n.heads ≡ heads_after r.heads f2 → f3 ≡ headed r.heads f2

@@ -7,7 +7,7 @@ use Rattle.far_base.specs.declared.plan.Config.{Config}
 use Rattle.far_model.specs.Pass.{Passed, pass}
 use Rattle.far_model.specs.View.{SwitchView}
 use Rattle.switch_core.specs.Plain.{emit_of}
-use Rattle.switch_staged.specs.declared.flight.Flight.{Flight}
+use Rattle.switch_staged.specs.declared.flight.Course.{Course}
 use Rattle.switch_staged.specs.Changes.{ended}
 use Rattle.switch_staged.specs.Line.{final, answers}
 use Rattle.switch_staged.specs.Overlap.{Waits, kept, sent, array_of}
@@ -26,11 +26,11 @@ through_more config r (q ∷ ps) p = through_more config (after config r q) ps p
 pub landed_is_pass : (config : Config) (r : Registers) (p : Packet) → Fits config r → IsShort p → ended config (after config r p) (carried_all 0 r.arrays (before_bodies config r p)) ≡ pass (view_of config r) p
 landed_is_pass config r p fits short = staged_is_pass config r p fits short
 
-arrays_full : (n at : ℕ) (arrays : List (List (List ℕ))) (f : Flight) → AreFull n arrays → AreFull n (arrays_after at arrays f)
+arrays_full : (n at : ℕ) (arrays : List (List (List ℕ))) (f : Course) → AreFull n arrays → AreFull n (arrays_after at arrays f)
 arrays_full n at [] f h = tt
 arrays_full n at (a ∷ rest) f h = (array_length f.place at a f ∙ h.0, arrays_full n (suc at) rest (carried at a f) h.1)
 
-arrays_count : (at : ℕ) (arrays : List (List (List ℕ))) (f : Flight) → length (arrays_after at arrays f) ≡ length arrays
+pub arrays_count : (at : ℕ) (arrays : List (List (List ℕ))) (f : Course) → length (arrays_after at arrays f) ≡ length arrays
 arrays_count at [] f = refl
 arrays_count at (a ∷ rest) f = ap suc (arrays_count (suc at) rest (carried at a f))
 
@@ -63,7 +63,7 @@ answers_more v (p ∷ ps) qs = ap (λ r. emit_of (pass v p) ∷ r) (answers_more
 
 -- ---- one stage, one tick
 
-pub steps : {X : Type 0} (config : Config) (first : Registers) (flight next_flight : Registers → Packet → Flight) (get : Registers → X) (step : X → Flight → X) (next : X → Flight → Flight) (x : X) (w : Option Flight) (came gone : List Packet)
+pub steps : {X : Type 0} (config : Config) (first : Registers) (flight next_flight : Registers → Packet → Course) (get : Registers → X) (step : X → Course → X) (next : X → Course → Course) (x : X) (w : Option Course) (came gone : List Packet)
     → ((p : Packet) → get (after config (through config first gone) p) ≡ step (get (through config first gone)) (flight (through config first gone) p))
     → ((p : Packet) → next_flight (through config first gone) p ≡ next (get (through config first gone)) (flight (through config first gone) p))
     → Waits flight config first w came gone → x ≡ get (through config first gone)
@@ -75,23 +75,23 @@ steps config first flight next_flight get step next x (Some f) came gone a b h e
       (h.0, h.1, ap (λ y. next y f) e ∙ ap (next (get r)) h.2 ∙ sym (b h.0)),
     )
 
-no_more : (at : ℕ) → at ≡ at + 0
+pub no_more : (at : ℕ) → at ≡ at + 0
 no_more at = omega arith
 
-next_more : (at n : ℕ) → suc at + n ≡ at + suc n
+pub next_more : (at n : ℕ) → suc at + n ≡ at + suc n
 next_more at n = omega arith
 
 pub from_none : (k : ℕ) → 0 + k ≡ k
 from_none k = omega arith
 
-get_after : (at k : ℕ) (arrays : List (List (List ℕ))) (f : Flight) → k < length arrays → slice_index_or (arrays_after at arrays f) k [] ≡ array_after (at + k) (slice_index_or arrays k []) (carried_all at (take k arrays) f)
+get_after : (at k : ℕ) (arrays : List (List (List ℕ))) (f : Course) → k < length arrays → slice_index_or (arrays_after at arrays f) k [] ≡ array_after (at + k) (slice_index_or arrays k []) (carried_all at (take k arrays) f)
 get_after at k [] f b = absurd (omega (arith, b))
 get_after at zero (a ∷ rest) f b = ap (λ m. array_after m a f) (no_more at)
 get_after at (suc k) (a ∷ rest) f b =
     get_after (suc at) k rest (carried at a f) (grind (arith, b))
     ∙ ap (λ m. array_after m (slice_index_or rest k []) (carried_all (suc at) (take k rest) (carried at a f))) (next_more at k)
 
-carry_more : (at k : ℕ) (arrays : List (List (List ℕ))) (f : Flight) → k < length arrays → carried_all at (take (suc k) arrays) f ≡ carried (at + k) (slice_index_or arrays k []) (carried_all at (take k arrays) f)
+carry_more : (at k : ℕ) (arrays : List (List (List ℕ))) (f : Course) → k < length arrays → carried_all at (take (suc k) arrays) f ≡ carried (at + k) (slice_index_or arrays k []) (carried_all at (take k arrays) f)
 carry_more at k [] f b = absurd (omega (arith, b))
 carry_more at zero (a ∷ rest) f b = ap (λ m. carried m a f) (no_more at)
 carry_more at (suc k) (a ∷ rest) f b =

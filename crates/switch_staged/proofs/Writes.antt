@@ -11,7 +11,7 @@ use Rattle.far_model.specs.View.{SlotView, SwitchView, Mark, slot_at, taken_at, 
 use Rattle.far_model.specs.Pass.{Passed, pass, sent_to, absorbing, numbered, write_passes, changes}
 use Rattle.switch_staged.specs.declared.cells.Head.{Head}
 use Rattle.switch_staged.specs.declared.flight.Act.TheVariants.{Absorb}
-use Rattle.switch_staged.specs.declared.flight.Flight.{Flight}
+use Rattle.switch_staged.specs.declared.flight.Course.{Course}
 use Rattle.switch_staged.specs.Heads.{is_own, act_for, acted, cells_of_body, body_after, gate_after, goes_on, place_for, bound_after, new_num, new_body}
 use Rattle.switch_staged.specs.Stages.{head_at, met, missed, taken_after, wants_part, PlaceBelow, key_touched, changes_record, entered}
 use Rattle.switch_staged.specs.Shapes.{shaped, shape_of}
@@ -41,7 +41,7 @@ pub gated_fits : (config : Config) (r : Registers) (p : Packet) → Fits config 
 gated_fits config r p fits = record { bound = fits.bound; heads = fits.heads; taken = fits.taken; arrays = fits.arrays; count = fits.count }
 
 -- the flight that has been looked up
-abbrev pub at_place : Config → Registers → Packet → Option ℕ → Flight
+abbrev pub at_place : Config → Registers → Packet → Option ℕ → Course
 at_place config r p q = record (entered config r.gate p) { place = q }
 
 write_places : (config : Config) (r : Registers) (caller op : ℕ) (key : List ℕ) (body : Option (List ℕ)) → Fits config r → length (text_of body) ≤ 256 → (q : Option ℕ) → PlaceBelow q config.slots

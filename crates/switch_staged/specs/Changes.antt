@@ -8,7 +8,7 @@ use Rattle.far_base.specs.declared.party.Party.TheVariants.{Controller}
 use Rattle.far_base.specs.declared.plan.Config.{Config}
 use Rattle.far_model.specs.View.{SlotView, SwitchView, Mark, held_record, mark_of, same_mark}
 use Rattle.far_model.specs.Pass.{Passed, sent_to, with_slot, with_taken}
-use Rattle.switch_staged.specs.declared.flight.Flight.{Flight}
+use Rattle.switch_staged.specs.declared.flight.Course.{Course}
 use Rattle.switch_staged.specs.Heads.{writes, cells_of_body}
 use Rattle.switch_staged.specs.Shapes.{shaped}
 use Rattle.switch_staged.specs.Rows.{with_row, joined}
@@ -29,10 +29,10 @@ changes_at v i old era mark slot out = record {
   second = if nat_eq era v.snap then None else part_at v i old era mark;
 }
 
-abbrev pub ended : Config → Registers → Flight → Passed
+abbrev pub ended : Config → Registers → Course → Passed
 ended config r f = record { view = view_of config r; first = first_out config f; second = second_out f }
 
-abbrev pub rows_left : ℕ → List (List (List ℕ)) → Flight → List (List (List ℕ))
+abbrev pub rows_left : ℕ → List (List (List ℕ)) → Course → List (List (List ℕ))
 rows_left i arrays f = if writes f.act then with_row i arrays f.cells else arrays
 
 abbrev pub bytes_left : List (List ℕ) → List (List ℕ) → Bool → List (List ℕ)

@@ -15,7 +15,7 @@ use Rattle.switch_staged.specs.declared.flight.Act.{Act}
 use Rattle.switch_staged.specs.declared.flight.Act.TheVariants.{Keep, Absorb, Raise, Bind, Clear}
 use Rattle.switch_staged.specs.declared.flight.Part.{Part}
 use Rattle.switch_staged.specs.declared.flight.Part.TheVariants.{Stays, Same, Whole}
-use Rattle.switch_staged.specs.declared.flight.Flight.{Flight}
+use Rattle.switch_staged.specs.declared.flight.Course.{Course}
 use Rattle.switch_staged.specs.Rows.{joined}
 use Rattle.switch_staged.specs.Shapes.{shaped}
 
@@ -31,7 +31,7 @@ slot_of h bytes = record {
 }
 
 -- what the slot was
-abbrev pub old_slot : Flight → SlotView
+abbrev pub old_slot : Course → SlotView
 old_slot f = slot_of f.found (joined f.cells)
 
 abbrev pub is_clear : Act → Bool
@@ -62,10 +62,10 @@ part_out snap (Some i) Stays slot = None
 part_out snap (Some i) Same slot = sent_to Controller (SnapSame snap i)
 part_out snap (Some i) Whole slot = sent_to Controller (SnapPart snap i (held_record slot))
 
-abbrev pub flight_part : Flight → Option Out
+abbrev pub flight_part : Course → Option Out
 flight_part f = part_out f.gate.snap f.place f.part (old_slot f)
 
-unfoldable pub first_for : Config → Flight → Packet → Option Out
+unfoldable pub first_for : Config → Course → Packet → Option Out
 first_for config f (GetReq caller op key) = read_out config f.place caller op key (old_slot f)
 first_for config f (WriteReq caller op key body) = write_out config f.place caller op key f.gate.counter body
 first_for config f (GetRep caller op key tag num body) = sent_to (Client caller) (GetAns caller op key num body false)
@@ -78,21 +78,21 @@ first_for config f (SnapFrom epoch id base) = sent_to Controller (SnapBegun id f
 first_for config f (SnapRead epoch id i) = flight_part f
 first_for config f _ = None
 
-abbrev pub first_out : Config → Flight → Option Out
+abbrev pub first_out : Config → Course → Option Out
 first_out config f = if f.live then first_for config f f.packet else None
 
 abbrev pub hot_out : Bool → List ℕ → Option Out
 hot_out hot key = if hot then sent_to Controller (Hot key) else None
 
-abbrev pub hot_or_part : Option ℕ → Flight → List ℕ → Option Out
+abbrev pub hot_or_part : Option ℕ → Course → List ℕ → Option Out
 hot_or_part None f key = hot_out f.hot key
 hot_or_part (Some i) f key = flight_part f
 
-unfoldable pub second_for : Flight → Packet → Option Out
+unfoldable pub second_for : Course → Packet → Option Out
 second_for f (GetReq caller op key) = hot_or_part f.place f key
 second_for f (WriteReq caller op key body) = hot_or_part f.place f key
 second_for f (SnapRead epoch id i) = None
 second_for f _ = flight_part f
 
-abbrev pub second_out : Flight → Option Out
+abbrev pub second_out : Course → Option Out
 second_out f = if f.live then second_for f f.packet else None

@@ -10,3 +10,7 @@ pub mod Line
 pub mod Through
 pub mod Overlap
 pub mod Pipelined
+pub mod Machines
+pub mod Groups
+pub mod Fronts
+pub mod Together

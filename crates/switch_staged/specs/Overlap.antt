@@ -8,7 +8,7 @@ use Rattle.far_base.specs.declared.packet.Packet.{Packet}
 use Rattle.far_base.specs.declared.plan.Config.{Config}
 use Rattle.far_model.specs.View.{SwitchView}
 use Rattle.switch_core.specs.declared.switch.Emit.{Emit}
-use Rattle.switch_staged.specs.declared.flight.Flight.{Flight}
+use Rattle.switch_staged.specs.declared.flight.Course.{Course}
 use Rattle.switch_staged.specs.Line.{answers, final}
 use Rattle.switch_staged.specs.Rows.{CELL_LENGTH}
 use Rattle.switch_staged.specs.Stages.{PlaceBelow, AdmitsWithin, entered, table_after, looked_up, heads_after, headed}
@@ -23,14 +23,14 @@ pub record PipelineView : Type 0 where
   pub config : Config
   pub registers : Registers
   pub entering : Option Packet
-  pub table : Option Flight
-  pub heads : Option Flight
-  pub taken : Option Flight
-  pub bodies : List (Option Flight)
+  pub table : Option Course
+  pub heads : Option Course
+  pub taken : Option Course
+  pub bodies : List (Option Course)
 
 -- ---- which packets stand where
 
-abbrev pub packet_of : Option Flight → Option Packet
+abbrev pub packet_of : Option Course → Option Packet
 packet_of None = None
 packet_of (Some f) = Some f.packet
 
@@ -67,7 +67,7 @@ body_cell k body = take CELL_LENGTH (drop (k * CELL_LENGTH) (padded BODY_LIMIT (
 
 -- of the packets that came to a stage, all but the one that stands before it have passed; its flight is that of its
 -- packet at this stage, behind those packets
-abbrev pub Waits : (Registers → Packet → Flight) → Config → Registers → Option Flight → List Packet → List Packet
+abbrev pub Waits : (Registers → Packet → Course) → Config → Registers → Option Course → List Packet → List Packet
     → Type 0
 Waits flight config first None came gone = came ≡ gone
 Waits flight config first (Some f) came gone = (p : Packet) × (came ≡ gone ++ p ∷ []) × (f ≡ flight
@@ -77,7 +77,7 @@ abbrev pub array_of : ℕ → Registers → List (List ℕ)
 array_of k r = slice_index_or r.arrays k []
 
 -- the stages of the body from k on: each array is as the packets that have passed leave it
-abbrev pub Bodies : ℕ → Config → Registers → List (List (List ℕ)) → List (Option Flight) → List Packet
+abbrev pub Bodies : ℕ → Config → Registers → List (List (List ℕ)) → List (Option Course) → List Packet
     → List Packet → Type 0
 Bodies k config first [] waiting came left = came ≡ left
 Bodies k config first (a ∷ arrays) [] came left = came ≡ left
@@ -138,31 +138,31 @@ abbrev pub sent : {X F G : Type 0} → (X → F → G) → X → Option F → Op
 sent next x None = None
 sent next x (Some f) = Some (next x f)
 
-abbrev pub stepped : ℕ → List (List (List ℕ)) → List (Option Flight) → List (List (List ℕ))
+abbrev pub stepped : ℕ → List (List (List ℕ)) → List (Option Course) → List (List (List ℕ))
 stepped k [] waiting = []
 stepped k (a ∷ arrays) [] = a ∷ arrays
 stepped k (a ∷ arrays) (w ∷ waiting) = kept (array_after k) a w ∷ stepped (suc k) arrays waiting
 
 -- the flights before the stages of the body, where `coming` comes to the first
-abbrev pub shifted : ℕ → List (List (List ℕ)) → List (Option Flight) → Option Flight → List (Option Flight)
+abbrev pub shifted : ℕ → List (List (List ℕ)) → List (Option Course) → Option Course → List (Option Course)
 shifted k [] waiting coming = waiting
 shifted k (a ∷ arrays) [] coming = []
 shifted k (a ∷ arrays) (w ∷ waiting) coming = coming ∷ shifted (suc k) arrays waiting (sent (carried k) a w)
 
 -- the flight that has passed the last of them
-abbrev pub gone : ℕ → List (List (List ℕ)) → List (Option Flight) → Option Flight → Option Flight
+abbrev pub gone : ℕ → List (List (List ℕ)) → List (Option Course) → Option Course → Option Course
 gone k [] waiting coming = coming
 gone k (a ∷ arrays) [] coming = coming
 gone k (a ∷ arrays) (w ∷ waiting) coming = gone (suc k) arrays waiting (sent (carried k) a w)
 
-abbrev pub past : PipelineView → Option Flight
+abbrev pub past : PipelineView → Option Course
 past v = sent (λ cells f. warmed v.config v.registers.hot (parted_at cells f.place f)) v.registers.taken v.taken
 
-abbrev pub leaving : PipelineView → Option Flight
+abbrev pub leaving : PipelineView → Option Course
 leaving v = gone 0 v.registers.arrays v.bodies (past v)
 
 -- what leaves with a flight that has passed all stages
-abbrev pub answer_of : Config → Option Flight → Option Emit
+abbrev pub answer_of : Config → Option Course → Option Emit
 answer_of config None = None
 answer_of config (Some f) = Some (record { first = first_out config f; second = second_out f })
 
@@ -190,11 +190,11 @@ ticked v = record {
 
 -- ---- what keeps each visit within its array
 
-abbrev pub StaysBelow : ℕ → Option Flight → Type 0
+abbrev pub StaysBelow : ℕ → Option Course → Type 0
 StaysBelow slots w = IfSome w (λ f. PlaceBelow f.place slots)
 
 -- whatever is bound, the packet goes to a slot that is there, and binds none that is not
-pub record MayLook (slots : ℕ) (f : Flight) : Type 0 where
+pub record MayLook (slots : ℕ) (f : Course) : Type 0 where
   pub place : (bound : List (Option (List ℕ))) → length bound ≡ slots → PlaceBelow (looked_up bound f).place slots
   pub admits : f.live ≡ true → AdmitsWithin slots f.packet
 

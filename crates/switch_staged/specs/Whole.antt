@@ -8,7 +8,7 @@ use Rattle.far_model.specs.Pass.{Passed}
 use Rattle.switch_staged.specs.declared.cells.Gate.{Gate}
 use Rattle.switch_staged.specs.declared.cells.Head.{Head}
 use Rattle.switch_staged.specs.declared.cells.Taken.{Taken}
-use Rattle.switch_staged.specs.declared.flight.Flight.{Flight}
+use Rattle.switch_staged.specs.declared.flight.Course.{Course}
 use Rattle.switch_staged.specs.Heads.{gate_after, empty_head}
 use Rattle.switch_staged.specs.Stages.{no_taken, no_hot, entered, table_after, looked_up, heads_after, headed}
 use Rattle.switch_staged.specs.Stages.{taken_at_place, parted_at, hots_after, warmed, arrays_after, carried_all}
@@ -72,7 +72,7 @@ pub record Fits (config : Config) (r : Registers) : Type 0 where
   pub count : length r.arrays ≡ BODY_CELLS
 
 -- the stages of the bodies, and what leaves
-abbrev pub from_bodies : Config → Registers → Flight → Passed
+abbrev pub from_bodies : Config → Registers → Course → Passed
 from_bodies config r f = record {
   view = view_of config (record r { arrays = arrays_after 0 r.arrays f });
   first = first_out config (carried_all 0 r.arrays f);
@@ -80,20 +80,20 @@ from_bodies config r f = record {
 }
 
 -- from the hot cells on
-abbrev pub from_hot : Config → Registers → Flight → Passed
+abbrev pub from_hot : Config → Registers → Course → Passed
 from_hot config r f = from_bodies config (record r { hot = hots_after config r.hot f }) (warmed config r.hot f)
 
 -- from the taken parts on
-abbrev pub from_taken : Config → Registers → Flight → Passed
+abbrev pub from_taken : Config → Registers → Course → Passed
 from_taken config r f = from_hot config (record r { taken = taken_at_place r.taken f.place f })
     (parted_at r.taken f.place f)
 
 -- from the heads on
-abbrev pub from_heads : Config → Registers → Flight → Passed
+abbrev pub from_heads : Config → Registers → Course → Passed
 from_heads config r f = from_taken config (record r { heads = heads_after r.heads f }) (headed r.heads f)
 
 -- from the table on
-abbrev pub from_table : Config → Registers → Flight → Passed
+abbrev pub from_table : Config → Registers → Course → Passed
 from_table config r f = from_heads config (record r { bound = table_after r.bound f }) (looked_up r.bound f)
 
 -- a pass through all stages

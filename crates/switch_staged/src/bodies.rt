@@ -1,14 +1,15 @@
 //! The stages of the bodies.
-ghost use Rattle.std.specs.Prelude.{◌≡◌, ◌+◌, ◌<◌, ◌≤◌, ◌^◌, ℕ, List, length, slice_index_or, slice_set, if◌then◌else◌};
-ghost use Rattle.std.specs.Prelude.{IfOk, Some};
+ghost use Rattle.std.specs.Prelude.{◌≡◌, ◌+◌, ◌<◌, ◌≤◌, ◌^◌, ℕ, List, [], length, replicate, slice_index_or, slice_set};
+ghost use Rattle.std.specs.Prelude.{if◌then◌else◌, IfOk, Some};
 ghost use Rattle.switch_staged.specs.Rows.{zero_cell};
-ghost use Rattle.switch_staged.specs.Whole.{empty_arrays};
+ghost use Rattle.switch_staged.specs.Groups.{arrays_left, carried_over, token_over};
 ghost use Rattle.register_stages.specs.Arrays.{cells_of, place_of};
 ghost use Rattle.switch_staged.specs.Stages.{InReach, PlaceBelow, IsPart, all_cells, array_after, carried};
+ghost use Rattle.switch_staged.specs.Stages.{token_past, token_behind};
 ghost use Rattle.switch_staged.specs.Stages.{cell_after as cell_left, arrays_after, carried_all};
 ghost use Rattle.switch_staged.specs.Heads.{writes as is_writing};
 
-use crate::cells::{BODY_CELLS, CELL_LENGTH, Cell, Cells};
+use crate::cells::{CELL_LENGTH, Cell, Cells};
 use crate::flight::{Act, Passage};
 use far_base::Memory;
 use register_stages::{PassToken, RegArray};
@@ -67,7 +68,7 @@ fn visit_body(
     ensures cells { cells_of array.new ≡ slice_set (cells_of array.old) place
         (cell_left at flight.now (slice_index_or (cells_of array.old) place zero_cell)) }
     ensures old { result ≡ slice_index_or (cells_of array.old) place zero_cell }
-    ensures token { token.new ≤ place_of array.old + 1 }
+    ensures token { token.new ≡ place_of array.old + 1 }
     ensures place { place_of array.new ≡ place_of array.old }
 {
     array.visit(
@@ -98,7 +99,7 @@ fn pass_cell(
     requires place { place_of array.old + 1 < 2 ^ 32 }
     ensures cells { cells_of array.new ≡ array_after at (cells_of array.old) flight.old }
     ensures flight { flight.new ≡ carried at (cells_of array.old) flight.old }
-    ensures token { token.new ≤ place_of array.old + 1 }
+    ensures token { token.new ≡ place_of array.old + 1 }
     ensures place { place_of array.new ≡ place_of array.old }
 {
     let old = visit_body(array, token, at, place, writes, flight);
@@ -113,7 +114,8 @@ pub fn pass_body(array: &mut RegArray<Cell>, token: &mut PassToken, at: usize, f
     requires place { place_of array.old + 1 < 2 ^ 32 }
     ensures cells { cells_of array.new ≡ array_after at (cells_of array.old) flight.old }
     ensures flight { flight.new ≡ carried at (cells_of array.old) flight.old }
-    ensures token { token.new ≤ place_of array.old + 1 }
+    ensures token { token.new ≡ token_past flight.old.place (place_of array.old + 1) token.old }
+    ensures within { token.new ≤ place_of array.old + 1 }
     ensures place { place_of array.new ≡ place_of array.old }
 {
     let Some(place) = flight.place else {
@@ -123,71 +125,105 @@ pub fn pass_body(array: &mut RegArray<Cell>, token: &mut PassToken, at: usize, f
     pass_cell(array, token, at, place, writes, flight);
 }
 
-/// All stages of the body, over the list, where the flight goes to this slot.
+/// The stages of the body from `first` on, over the list, where the flight goes to this slot.
 fn pass_arrays(
     arrays: &mut [RegArray<Cell>],
     token: &mut PassToken,
+    first: usize,
     slots: u32,
     place: u32,
     flight: &mut Passage,
 )
     requires goes { flight.old.place ≡ Some place }
     requires cell { place < slots }
-    requires count { length arrays.old ≡ 32 }
-    requires part { IsPart 5 slots arrays.old }
-    requires token { token.old ≤ 5 }
-    ensures cells { all_cells arrays.new ≡ arrays_after 0 (all_cells arrays.old) flight.old }
-    ensures flight { flight.new ≡ carried_all 0 (all_cells arrays.old) flight.old }
-    ensures count { length arrays.new ≡ 32 }
-    ensures part { IsPart 5 slots arrays.new }
+    requires count { first + length arrays.old ≤ 32 }
+    requires part { IsPart (5 + first) slots arrays.old }
+    requires token { token.old ≤ 5 + first }
+    ensures cells { all_cells arrays.new ≡ arrays_after first (all_cells arrays.old) flight.old }
+    ensures flight { flight.new ≡ carried_all first (all_cells arrays.old) flight.old }
+    ensures count { length arrays.new ≡ length arrays.old }
+    ensures part { IsPart (5 + first) slots arrays.new }
+    ensures token { token.new ≡ token_behind (length arrays.old) (5 + first) token.old }
+    ensures within { token.new ≤ 5 + first + length arrays.old }
 {
     let writes = flight.act.writes();
     for k in 0..arrays.len() {
-        pass_cell(&mut arrays[k], token, k, place, writes, flight);
+        pass_cell(&mut arrays[k], token, first + k, place, writes, flight);
     }
 }
 
-/// All stages of the body. A flight that goes to no slot passes them untouched.
-#[tactic(auto, using(crate::proofs::SlotLaws::writes_nothing, crate::proofs::SlotLaws::carries_nothing))]
+/// The stages of the body from `first` on. A flight that goes to no slot of theirs passes them untouched.
 pub fn pass_bodies(
     arrays: &mut Vec<RegArray<Cell>>,
     token: &mut PassToken,
+    first: usize,
     slots: u32,
     flight: &mut Passage,
 )
-    requires cell { PlaceBelow flight.old.place slots }
-    requires count { length arrays.old.items ≡ 32 }
-    requires part { IsPart 5 slots arrays.old.items }
-    requires token { token.old ≤ 5 }
-    ensures cells { all_cells arrays.new.items ≡ arrays_after 0 (all_cells arrays.old.items) flight.old }
-    ensures flight { flight.new ≡ carried_all 0 (all_cells arrays.old.items) flight.old }
-    ensures count { length arrays.new.items ≡ 32 }
-    ensures part { IsPart 5 slots arrays.new.items }
+    requires count { first + length arrays.old.items ≤ 32 }
+    requires part { IsPart (5 + first) slots arrays.old.items }
+    requires token { token.old ≤ 5 + first }
+    ensures cells { all_cells arrays.new.items ≡ arrays_left first slots (all_cells arrays.old.items) flight.old.place
+        flight.old }
+    ensures flight { flight.new ≡ carried_over first slots (all_cells arrays.old.items) flight.old.place flight.old }
+    ensures count { length arrays.new.items ≡ length arrays.old.items }
+    ensures part { IsPart (5 + first) slots arrays.new.items }
+    ensures token { token.new ≡ token_over first slots (length arrays.old.items) flight.old.place token.old }
+    ensures within { token.new ≤ 5 + first + length arrays.old.items }
 {
-    if let Some(place) = flight.place {
-        pass_arrays(arrays, token, slots, place, flight);
+    let Some(place) = flight.place else {
+        return;
+    };
+    if place < slots {
+        pass_arrays(arrays, token, first, slots, place, flight);
     }
 }
 
-/// The arrays of the bodies for so many slots, with zeros.
-pub fn empty_bodies(alloc: Global, slots: u32) -> Result<Vec<RegArray<Cell>>, Memory>
-    ensures cells { IfOk result (λ arrays. all_cells arrays.items ≡ empty_arrays slots) }
-    ensures count { IfOk result (λ arrays. length arrays.items ≡ 32) }
-    ensures part { IfOk result (λ arrays. IsPart 5 slots arrays.items) }
+/// So many stages of the body from `first` on, for so many slots, with zeros.
+pub fn empty_bodies(
+    alloc: Global,
+    first: usize,
+    count: usize,
+    slots: u32,
+) -> Result<Vec<RegArray<Cell>>, Memory>
+    requires { first + count ≤ 32 }
+    ensures cells { IfOk result (λ arrays. all_cells arrays.items ≡ replicate count (replicate slots zero_cell)) }
+    ensures count { IfOk result (λ arrays. length arrays.items ≡ count) }
+    ensures part { IfOk result (λ arrays. IsPart (5 + first) slots arrays.items) }
 {
-    let mut arrays = Vec::with_capacity(alloc, BODY_CELLS)?;
-    for k in 0..BODY_CELLS {
-        arrays.push_reserved(RegArray::new(alloc, 5 + k as u32, slots, [0; CELL_LENGTH])?);
+    let mut arrays = Vec::with_capacity(alloc, count)?;
+    for k in 0..count {
+        arrays.push_reserved(RegArray::new(
+            alloc,
+            5 + (first + k) as u32,
+            slots,
+            [0; CELL_LENGTH],
+        )?);
     }
     Ok(arrays)
 }
 
+/// The same stages with the same cells.
+pub fn copied_bodies(
+    alloc: Global,
+    arrays: &[RegArray<Cell>],
+) -> Result<Vec<RegArray<Cell>>, Memory>
+    ensures cells { IfOk result (λ copy. all_cells copy.items ≡ all_cells arrays.now) }
+    ensures count { IfOk result (λ copy. length copy.items ≡ length arrays.now) }
+    ensures part { IfOk result (λ copy. (first slots : ℕ) → IsPart first slots arrays.now → IsPart first slots copy.items) }
+{
+    let mut copy = Vec::with_capacity(alloc, arrays.len())?;
+    for k in 0..arrays.len() {
+        copy.push_reserved(arrays[k].copied(alloc)?);
+    }
+    Ok(copy)
+}
+
 fn reset_arrays(arrays: &mut [RegArray<Cell>], slots: u32)
-    requires count { length arrays.old ≡ 32 }
-    requires part { IsPart 5 slots arrays.old }
-    ensures cells { all_cells arrays.new ≡ empty_arrays slots }
-    ensures count { length arrays.new ≡ 32 }
-    ensures part { IsPart 5 slots arrays.new }
+    requires { (first : ℕ) × IsPart first slots arrays.old }
+    ensures cells { all_cells arrays.new ≡ replicate (length arrays.old) (replicate slots zero_cell) }
+    ensures count { length arrays.new ≡ length arrays.old }
+    ensures part { (first : ℕ) → IsPart first slots arrays.old → IsPart first slots arrays.new }
 {
     for k in 0..arrays.len() {
         arrays[k].reset([0; CELL_LENGTH]);
@@ -196,11 +232,19 @@ fn reset_arrays(arrays: &mut [RegArray<Cell>], slots: u32)
 
 /// All cells of the bodies become zeros.
 pub fn reset_bodies(arrays: &mut Vec<RegArray<Cell>>, slots: u32)
-    requires count { length arrays.old.items ≡ 32 }
-    requires part { IsPart 5 slots arrays.old.items }
-    ensures cells { all_cells arrays.new.items ≡ empty_arrays slots }
-    ensures count { length arrays.new.items ≡ 32 }
-    ensures part { IsPart 5 slots arrays.new.items }
+    requires { (first : ℕ) × IsPart first slots arrays.old.items }
+    ensures cells { all_cells arrays.new.items ≡ replicate (length arrays.old.items) (replicate slots zero_cell) }
+    ensures count { length arrays.new.items ≡ length arrays.old.items }
+    ensures part { (first : ℕ) → IsPart first slots arrays.old.items → IsPart first slots arrays.new.items }
 {
     reset_arrays(arrays, slots);
+}
+
+/// A cell of stage `at` of these.
+pub fn cell_in(arrays: &[RegArray<Cell>], at: usize, slot: u32) -> Cell
+    requires at { at < length arrays.now }
+    requires part { (first : ℕ) × (slots : ℕ) × (slot < slots) × IsPart first slots arrays.now }
+    ensures { result ≡ slice_index_or (slice_index_or (all_cells arrays.now) at []) slot zero_cell }
+{
+    arrays[at].look(slot)
 }

@@ -3,11 +3,11 @@ ghost use Rattle.std.specs.Prelude.{◌≡◌, ◌+◌, ◌<◌, ◌++◌, lengt
 ghost use Rattle.switch_staged.specs.Overlap.{packet_of as packet_in, oldest_first as oldest, in_front, kept};
 ghost use Rattle.switch_staged.specs.Overlap.{one_packet};
 
-use crate::flight::Flight;
+use crate::flight::Course;
 use crate::pipeline::STAGES;
 use far_base::Packet;
 
-pub fn packet_of(flight: &Option<Flight>) -> Option<Packet>
+pub fn packet_of(flight: &Option<Course>) -> Option<Packet>
     ensures { result ≡ packet_in flight.now }
 {
     match flight {
@@ -17,7 +17,7 @@ pub fn packet_of(flight: &Option<Flight>) -> Option<Packet>
 }
 
 /// The packets before the stages of the body, behind the first four.
-pub fn put_packets(out: &mut [Option<Packet>], flights: &[Option<Flight>])
+pub fn put_packets(out: &mut [Option<Packet>], flights: &[Option<Course>])
     requires out { length out.old ≡ 36 }
     requires flights { length flights.now ≡ 32 }
     ensures { out.new ≡ take 4 out.old ++ map packet_in flights.now }

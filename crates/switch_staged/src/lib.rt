@@ -9,14 +9,22 @@ mod cells;
 mod emits;
 mod flight;
 mod gather;
+mod groups;
+mod leading;
+mod parts;
 mod pipeline;
 mod rows;
+mod same;
 mod stages;
 mod standing;
 mod switch;
 mod table;
 
+pub use groups::{Flight, Groups, a_pass_counts_one, groups_make_a_line};
+pub use leading::Head;
+pub use parts::{BodyPart, PART_STAGES};
 pub use pipeline::{Pipeline, STAGES, overlap_changes_nothing};
+pub use same::same_packet;
 pub use switch::StagedSwitch;
 
 #[cfg(test)]

@@ -1,7 +1,7 @@
 //! Packets that overlap in the stages.
-use crate::bodies::{empty_bodies, reset_bodies};
+use crate::bodies::{cell_in, empty_bodies, reset_bodies};
 use crate::cells::{BODY_CELLS, Cell, Gate, HOT_CELLS, Head, HotCell, Taken};
-use crate::flight::Flight;
+use crate::flight::Course;
 use crate::gather::{oldest_first, packet_of, put_packets};
 use crate::stages::body_is_short;
 use crate::standing::{tick_bodies, tick_gate, tick_heads, tick_table, tick_taken};
@@ -27,10 +27,10 @@ pub struct Pipeline {
     hot: RegArray<HotCell>,
     bodies: Vec<RegArray<Cell>>,
     entering: Option<Packet>,
-    to_table: Option<Flight>,
-    to_heads: Option<Flight>,
-    to_taken: Option<Flight>,
-    to_bodies: Vec<Option<Flight>>,
+    to_table: Option<Course>,
+    to_heads: Option<Course>,
+    to_taken: Option<Course>,
+    to_bodies: Vec<Option<Course>>,
 }
 
 impl Model for Pipeline {
@@ -56,8 +56,6 @@ ghost use Rattle.switch_staged.specs.Line.{final};
 ghost use Rattle.switch_staged.specs.Overlap.{PipelineView, IsRun, IsInOrder, standing, inside, passed, given, ticked};
 ghost use Rattle.switch_staged.specs.Overlap.{leaving, answer_of, body_cell, in_front};
 ghost use Rattle.switch_staged.specs.Pipelined.{opening_pipeline};
-ghost use Rattle.switch_staged.specs.Rows.{zero_cell};
-ghost use Rattle.switch_staged.specs.Stages.{IsPart, all_cells};
 
 fn filled<T: Copy>(alloc: Global, item: T, count: usize) -> Result<Vec<T>, AllocError>
     ensures { IfOk result (λ items. items.items ≡ replicate count item) }
@@ -77,7 +75,7 @@ fn fill<T: Copy>(items: &mut [T], item: T)
     }
 }
 
-fn drop_flights(flights: &mut Vec<Option<Flight>>)
+fn drop_flights(flights: &mut Vec<Option<Course>>)
     ensures { flights.new.items ≡ replicate (length flights.old.items) None }
 {
     fill(flights, None);
@@ -107,7 +105,7 @@ impl Pipeline {
             heads: RegArray::new(alloc, 2, slots, Head::empty())?,
             taken: RegArray::new(alloc, 3, slots, Taken::never())?,
             hot: RegArray::new(alloc, 4, HOT_CELLS, HotCell::new())?,
-            bodies: empty_bodies(alloc, slots)?,
+            bodies: empty_bodies(alloc, 0, BODY_CELLS, slots)?,
             entering: None,
             to_table: None,
             to_heads: None,
@@ -220,22 +218,11 @@ impl Pipeline {
             IsRun self.now start entered answered → result ≡ body_cell (stage - 4) (slot_at (final start
             (passed stage self.now entered)) slot).body }
     {
-        cell_in(&self.bodies, self.config.slots, stage as usize - 4, slot)
+        cell_in(&self.bodies, stage as usize - 4, slot)
     }
 }
 
-/// A cell of a body's stage, counted from 0.
-fn cell_in(arrays: &[RegArray<Cell>], slots: u32, at: usize, slot: u32) -> Cell
-    requires at { at < 32 }
-    requires slot { slot < slots }
-    requires count { length arrays.now ≡ 32 }
-    requires part { IsPart 5 slots arrays.now }
-    ensures { result ≡ slice_index_or (slice_index_or (all_cells arrays.now) at []) slot zero_cell }
-{
-    arrays[at].look(slot)
-}
-
-fn answer(config: &Config, flight: Option<Flight>) -> Option<Emit>
+fn answer(config: &Config, flight: Option<Course>) -> Option<Emit>
     requires { 0 < config.now.servers }
     ensures { result ≡ answer_of config.now flight }
 {

@@ -16,7 +16,7 @@ ghost use Rattle.switch_staged.specs.Stages.{InReach, waiting, entered, gate_of,
 ghost use Rattle.switch_staged.specs.Stages.{headed};
 ghost use Rattle.switch_staged.specs.Stages.{wants_part, head_mark, is_base as base_at, leaves_now as leaves_at};
 ghost use Rattle.switch_staged.specs.Stages.{parted_with, taken_after, part_for, changes_record, taken_at_place};
-ghost use Rattle.switch_staged.specs.Stages.{parted_at, hots_after, warmed, touch_key, key_touched};
+ghost use Rattle.switch_staged.specs.Stages.{parted_at, hots_after, warmed, touch_key, key_touched, token_past};
 
 use crate::cells::{Cells, Gate, Head, HotCell, Mark, Shape, Taken};
 use crate::flight::{Act, Part, Passage};
@@ -350,7 +350,8 @@ pub fn pass_heads(heads: &mut RegArray<Head>, token: &mut PassToken, flight: &mu
     requires token { token.old ≤ 2 }
     ensures heads { cells_of heads.new ≡ heads_after (cells_of heads.old) flight.old }
     ensures flight { flight.new ≡ headed (cells_of heads.old) flight.old }
-    ensures token { token.new ≤ 3 }
+    ensures token { token.new ≡ token_past flight.old.place 3 token.old }
+    ensures within { token.new ≤ 3 }
     ensures place { place_of heads.new ≡ 2 }
 {
     let Some(place) = flight.place else {
@@ -462,7 +463,8 @@ pub fn pass_taken(cells: &mut RegArray<Taken>, token: &mut PassToken, flight: &m
     requires token { token.old ≤ 3 }
     ensures cells { cells_of cells.new ≡ taken_at_place (cells_of cells.old) flight.old.place flight.old }
     ensures flight { flight.new ≡ parted_at (cells_of cells.old) flight.old.place flight.old }
-    ensures token { token.new ≤ 4 }
+    ensures token { token.new ≡ token_past flight.old.place 4 token.old }
+    ensures within { token.new ≤ 4 }
     ensures place { place_of cells.new ≡ 3 }
 {
     let Some(place) = flight.place else {
@@ -498,7 +500,8 @@ pub fn pass_hot(
     requires token { token.old ≤ 4 }
     ensures cells { cells_of cells.new ≡ hots_after config.now (cells_of cells.old) flight.old }
     ensures flight { flight.new ≡ warmed config.now (cells_of cells.old) flight.old }
-    ensures token { token.new ≤ 5 }
+    ensures token { token.new ≡ token_past (touch_key flight.old.place flight.old.packet) 5 token.old }
+    ensures within { token.new ≤ 5 }
     ensures place { place_of cells.new ≡ 4 }
 {
     let Some(key) = touched_key(flight.place, flight.packet) else {

@@ -10,7 +10,7 @@ ghost use Rattle.switch_staged.specs.Overlap.{StaysBelow, kept, sent, stepped, s
 
 use crate::bodies::pass_body;
 use crate::cells::{Cell, Gate, Head, HotCell, Taken};
-use crate::flight::{Flight, Passage};
+use crate::flight::{Course, Passage};
 use crate::stages::{pass_gate, pass_heads, pass_hot, pass_taken};
 use crate::table::pass_table;
 use far_base::{Config, Packet};
@@ -22,7 +22,7 @@ pub fn tick_gate(
     gates: &mut RegArray<Gate>,
     config: &Config,
     packet: Option<Packet>,
-) -> Option<Flight>
+) -> Option<Course>
     requires cell { length (cells_of gates.old) ≡ 1 }
     requires place { place_of gates.old ≡ 0 }
     requires room { IfSome packet (λ p. (gate_of (cells_of gates.old)).counter + 1 < 2 ^ 64) }
@@ -42,7 +42,7 @@ pub fn tick_gate(
 }
 
 /// Stage 1 gives the flight that comes to stage 2.
-pub fn tick_table(lookup: &mut Lookup, flight: Option<Flight>) -> Option<Flight>
+pub fn tick_table(lookup: &mut Lookup, flight: Option<Course>) -> Option<Course>
     requires { IfSome flight (λ f. f.live ≡ true → AdmitsWithin (length lookup.old.bound) f.packet) }
     ensures table { lookup.new.bound ≡ kept table_after lookup.old.bound flight }
     ensures flight { result ≡ sent looked_up lookup.old.bound flight }
@@ -58,7 +58,7 @@ pub fn tick_table(lookup: &mut Lookup, flight: Option<Flight>) -> Option<Flight>
 }
 
 /// Stage 2 gives the flight that comes to stage 3.
-pub fn tick_heads(heads: &mut RegArray<Head>, flight: Option<Flight>) -> Option<Flight>
+pub fn tick_heads(heads: &mut RegArray<Head>, flight: Option<Course>) -> Option<Course>
     requires cell { IfSome flight (λ f. InReach f.place (cells_of heads.old)) }
     requires place { place_of heads.old ≡ 2 }
     ensures heads { cells_of heads.new ≡ kept heads_after (cells_of heads.old) flight }
@@ -80,8 +80,8 @@ pub fn tick_taken(
     taken: &mut RegArray<Taken>,
     hot: &mut RegArray<HotCell>,
     config: &Config,
-    flight: Option<Flight>,
-) -> Option<Flight>
+    flight: Option<Course>,
+) -> Option<Course>
     requires cell { IfSome flight (λ f. InReach f.place (cells_of taken.old)) }
     requires hot_cells { length (cells_of hot.old) ≡ 256 }
     requires place { place_of taken.old ≡ 3 }
@@ -107,7 +107,7 @@ pub fn tick_taken(
 }
 
 /// Stage `at` of the body gives the flight that comes to the next.
-fn tick_body(array: &mut RegArray<Cell>, at: usize, flight: Option<Flight>) -> Option<Flight>
+fn tick_body(array: &mut RegArray<Cell>, at: usize, flight: Option<Course>) -> Option<Course>
     requires cell { IfSome flight (λ f. InReach f.place (cells_of array.old)) }
     requires at { at < 32 }
     requires place { place_of array.old + 1 < 2 ^ 32 }
@@ -127,10 +127,10 @@ fn tick_body(array: &mut RegArray<Cell>, at: usize, flight: Option<Flight>) -> O
 
 fn tick_arrays(
     arrays: &mut [RegArray<Cell>],
-    standing: &mut [Option<Flight>],
+    standing: &mut [Option<Course>],
     slots: u32,
-    coming: Option<Flight>,
-) -> Option<Flight>
+    coming: Option<Course>,
+) -> Option<Course>
     requires count { length arrays.old ≡ 32 }
     requires standing_count { length standing.old ≡ 32 }
     requires part { IsPart 5 slots arrays.old }
@@ -157,10 +157,10 @@ fn tick_arrays(
 /// flight that has passed the last.
 pub fn tick_bodies(
     arrays: &mut Vec<RegArray<Cell>>,
-    standing: &mut Vec<Option<Flight>>,
+    standing: &mut Vec<Option<Course>>,
     slots: u32,
-    coming: Option<Flight>,
-) -> Option<Flight>
+    coming: Option<Course>,
+) -> Option<Course>
     requires count { length arrays.old.items ≡ 32 }
     requires standing_count { length standing.old.items ≡ 32 }
     requires part { IsPart 5 slots arrays.old.items }

@@ -1,12 +1,6 @@
 //! The switch in stages.
-use crate::bodies::{empty_bodies, pass_bodies, reset_bodies};
-use crate::cells::{Cell, Gate, HOT_CELLS, Head, HotCell, Taken};
-use crate::flight::Passage;
-use crate::stages::{pass_gate, pass_heads, pass_hot, pass_taken};
-use crate::table::pass_table;
-use far_base::{Config, Memory, Packet};
-use lookup_table::Lookup;
-use register_stages::{PassToken, RegArray};
+use crate::groups::Groups;
+use far_base::{Config, Memory, Packet, Record};
 use std::alloc::Global;
 use std::marker::Model;
 use switch_core::{Emit, Switch};
@@ -15,32 +9,25 @@ use switch_core::{Emit, Switch};
 /// most once, and walks over no slots. Contracts see its view.
 #[derive(Drop)]
 pub struct StagedSwitch {
-    alloc: Global,
-    config: Config,
-    gate: RegArray<Gate>,
-    lookup: Lookup,
-    heads: RegArray<Head>,
-    taken: RegArray<Taken>,
-    hot: RegArray<HotCell>,
-    bodies: Vec<RegArray<Cell>>,
+    groups: Groups,
 }
 
 impl Model for StagedSwitch {
     ghost use Rattle.far_model.specs.View.{SwitchView};
-    ghost use Rattle.switch_staged.specs.Whole.{view_of};
-    ghost use Rattle.switch_staged.specs.Staged.{registers, IsStaged};
+    ghost use Rattle.switch_staged.specs.Together.{switch_of, AreOfOne};
 
     ghost Value = { SwitchView };
 
-    ghost view = { λ s. view_of s.config (registers s.gate s.lookup.bound s.heads s.taken s.hot s.bodies.items) };
+    ghost view = { λ s. switch_of s.groups };
 
-    ghost invariant = { λ s. IsStaged s.config s.gate s.lookup.bound s.heads s.taken s.hot s.bodies.items };
+    ghost invariant = { λ s. AreOfOne s.groups };
 }
 
-ghost use Rattle.std.specs.Prelude.{◌≡◌, ◌+◌, ◌<◌, ◌^◌, IfOk, None};
+ghost use Rattle.std.specs.Prelude.{◌≡◌, ◌+◌, ◌<◌, ◌^◌, length, IfOk, None};
 ghost use Rattle.far_base.specs.Limits.{IsConfig};
 ghost use Rattle.far_model.specs.Pass as model;
-ghost use Rattle.far_model.specs.View.{opening_view};
+ghost use Rattle.far_model.specs.View.{opening_view, held_record, slot_at};
+ghost use Rattle.switch_staged.specs.Together.{switch_of, AreOfOne};
 
 impl StagedSwitch {
     /// A switch with no memory but these.
@@ -48,17 +35,57 @@ impl StagedSwitch {
         requires { IsConfig config }
         ensures { IfOk result (λ switch. switch ≡ opening_view config epoch counter) }
     {
-        let slots = config.slots;
         Ok(StagedSwitch {
-            alloc,
-            config,
-            gate: RegArray::new(alloc, 0, 1, Gate::opening(epoch, counter))?,
-            lookup: Lookup::new(alloc, slots)?,
-            heads: RegArray::new(alloc, 2, slots, Head::empty())?,
-            taken: RegArray::new(alloc, 3, slots, Taken::never())?,
-            hot: RegArray::new(alloc, 4, HOT_CELLS, HotCell::new())?,
-            bodies: empty_bodies(alloc, slots)?,
+            groups: Groups::opening(alloc, config, epoch, counter)?,
         })
+    }
+
+    /// A switch of the same view.
+    pub fn copy(&self) -> Result<StagedSwitch, Memory>
+        ensures { IfOk result (λ copy. copy ≡ self.now) }
+    {
+        Ok(StagedSwitch {
+            groups: self.groups.copied()?,
+        })
+    }
+
+    /// The number that the last write got.
+    pub fn counter(&self) -> u64
+        ensures { result ≡ self.now.counter }
+    {
+        self.groups.head.counter()
+    }
+
+    /// The number of slots.
+    pub fn slots(&self) -> u32
+        ensures config { result ≡ self.now.config.slots }
+        ensures count { result ≡ length self.now.slots }
+    {
+        self.groups.head.config().slots
+    }
+
+    /// The record of a slot. `None` where the slot is not latest.
+    pub fn view(&self, slot: u32) -> Option<Record>
+        requires { slot < self.now.config.slots }
+        ensures { result ≡ held_record (slot_at self.now slot) }
+    {
+        self.groups.record(slot)
+    }
+
+    /// The stages in groups.
+    pub fn into_groups(self) -> Groups
+        ensures one { AreOfOne result }
+        ensures view { switch_of result ≡ self }
+    {
+        self.groups
+    }
+
+    /// The switch whose stages are in these groups.
+    pub fn from_groups(groups: Groups) -> StagedSwitch
+        requires { AreOfOne groups }
+        ensures { result ≡ switch_of groups }
+    {
+        StagedSwitch { groups }
     }
 
     /// One pass of a packet: each array is visited at most once, in the order of the places.
@@ -70,22 +97,7 @@ impl StagedSwitch {
         ensures first { emit.new.first ≡ (model.pass self.old packet.now).first }
         ensures second { emit.new.second ≡ (model.pass self.old packet.now).second }
     {
-        let mut token = PassToken::start();
-        let mut flight = Passage::new(packet);
-        pass_gate(
-            &mut self.gate,
-            &mut token,
-            &self.config,
-            packet,
-            &mut flight,
-        );
-        pass_table(&mut self.lookup, &mut flight);
-        pass_heads(&mut self.heads, &mut token, &mut flight);
-        pass_taken(&mut self.taken, &mut token, &mut flight);
-        pass_hot(&mut self.hot, &mut token, &self.config, &mut flight);
-        pass_bodies(&mut self.bodies, &mut token, self.config.slots, &mut flight);
-        flight.put_first(&self.config, &mut emit.first);
-        flight.put_second(&mut emit.second);
+        self.groups.visit_all(packet, emit);
     }
 }
 
@@ -103,16 +115,12 @@ impl Switch for StagedSwitch {
     }
 
     fn reset(&mut self, epoch: u32, counter: u64) {
-        self.gate.reset(Gate::opening(epoch, counter));
-        self.lookup.clear();
-        self.heads.reset(Head::empty());
-        self.taken.reset(Taken::never());
-        self.hot.reset(HotCell::new());
-        reset_bodies(&mut self.bodies, self.config.slots);
+        self.groups.reset(epoch, counter);
     }
 
     fn renew(&mut self, config: Config, epoch: u32, counter: u64) -> Result<(), Memory> {
-        *self = StagedSwitch::new(self.alloc, config, epoch, counter)?;
+        let alloc = self.groups.head.alloc();
+        *self = StagedSwitch::new(alloc, config, epoch, counter)?;
         Ok(())
     }
 }

@@ -1,11 +1,13 @@
 //! Stage 1: which key is bound to which slot.
-ghost use Rattle.std.specs.Prelude.{◌≡◌, length, true};
+ghost use Rattle.std.specs.Prelude.{◌≡◌, ◌+◌, ◌<◌, length, true, IfOk};
+ghost use Rattle.switch_staged.specs.Fronts.{first_bound};
 ghost use Rattle.switch_staged.specs.Heads.{place_for, bound_after};
 ghost use Rattle.switch_staged.specs.Stages.{table_after, looked_up, AdmitsWithin};
 
 use crate::flight::Passage;
-use far_base::Packet;
+use far_base::{Memory, Packet};
 use lookup_table::Lookup;
+use std::alloc::Global;
 
 /// The slot that the packet goes to.
 #[tactic(auto, unfolding(crate::specs::Heads::place_for))]
@@ -50,4 +52,30 @@ pub fn pass_table(lookup: &mut Lookup, flight: &mut Passage)
     let place = place_of(lookup, flight.packet);
     bind_for(lookup, flight.packet);
     flight.place = place;
+}
+
+/// The key of one more slot is bound as in another table.
+#[tactic(auto, using(crate::proofs::LookupLaws::bound_more, crate::proofs::LookupLaws::free_more, crate::proofs::LookupLaws::first_length))]
+fn bind_next(copy: &mut Lookup, from: &Lookup, slot: u32)
+    requires there { slot < length from.now.bound }
+    requires front { copy.old.bound ≡ first_bound slot from.now.bound }
+    ensures { copy.new.bound ≡ first_bound (slot + 1) from.now.bound }
+{
+    match from.key_of(slot) {
+        Some(key) => copy.bind(key, slot),
+        None => {}
+    }
+}
+
+/// A table in which each slot has the same key.
+#[tactic(auto, using(crate::proofs::LookupLaws::all_bound))]
+pub fn copied_table(alloc: Global, from: &Lookup, slots: u32) -> Result<Lookup, Memory>
+    requires { length from.now.bound ≡ slots }
+    ensures { IfOk result (λ copy. copy.bound ≡ from.now.bound) }
+{
+    let mut copy = Lookup::new(alloc, slots)?;
+    for slot in 0..slots {
+        bind_next(&mut copy, from, slot);
+    }
+    Ok(copy)
 }

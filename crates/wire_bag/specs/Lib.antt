@@ -1,1 +1,2 @@
+pub mod Addressees
 pub mod BagView

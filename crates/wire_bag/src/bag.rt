@@ -1,3 +1,4 @@
+use crate::addressees::{PLACES, count_less, count_more, first_to, has_some, no_counts};
 use far_base::{Memory, Packet, Party};
 use packet_codec::{Wire, encode_into};
 use std::alloc::Global;
@@ -14,17 +15,20 @@ pub struct Bag {
     // The first `count` boxes hold the messages, the rest are free.
     boxes: Vec<Box<Message>>,
     count: u32,
+    // How many of the messages go to the parties of each place.
+    counts: [u32; PLACES],
 }
 
 impl Model for Bag {
     ghost use Rattle.std.specs.Prelude.{◌-◌, ◌≤◌, vec_len};
+    ghost use Rattle.wire_bag.specs.Addressees.{AreCounted};
     ghost use Rattle.wire_bag.specs.BagView.{BagView, messages_of};
 
     ghost Value = { BagView };
 
     ghost view = { λ b. record { messages = messages_of b.count b.boxes.items; spare = vec_len b.boxes - b.count } };
 
-    ghost invariant = { λ b. b.count ≤ vec_len b.boxes };
+    ghost invariant = { λ b. (b.count ≤ vec_len b.boxes) × AreCounted b.counts (messages_of b.count b.boxes.items) };
 }
 
 ghost use Rattle.std.specs.Prelude.{◌≡◌, ◌+◌, ◌-◌, ◌^◌, ◌<◌, ◌≤◌, ◌++◌, [], ◌∷◌, not};
@@ -32,6 +36,7 @@ ghost use Rattle.std.specs.Prelude.{length, remove, slice_get, Some, Ok, OnOk, O
 ghost use Rattle.std.specs.List.{list_all};
 ghost use Rattle.packet_codec.specs.Packets.{packet_of};
 ghost use Rattle.packet_codec.specs.Spelling.{Spells, spelled};
+ghost use Rattle.wire_bag.specs.Addressees.{oldest_to};
 ghost use Rattle.wire_bag.specs.BagView.{are_from_others, is_same};
 
 fn are_from_others(boxes: &[Box<Message>], who: Party) -> bool
@@ -49,6 +54,7 @@ impl Bag {
             alloc,
             boxes: Vec::new(alloc),
             count: 0,
+            counts: no_counts(),
         }
     }
 
@@ -91,6 +97,7 @@ impl Bag {
         free.1 = to;
         encode_into(&mut free.2, packet);
         self.count += 1;
+        count_more(&mut self.counts, to);
     }
 
     /// Takes the message at place `i` out, counted from 0. The others keep their order.
@@ -111,8 +118,10 @@ impl Bag {
         ensures messages { self.new.messages ≡ remove self.old.messages i }
         ensures spare { self.old.spare ≤ self.new.spare }
     {
+        let to = self.at(i).1;
         self.boxes[i as usize..self.count as usize].rotate_left(1);
         self.count -= 1;
+        count_less(&mut self.counts, to);
     }
 
     /// How many messages there are.
@@ -136,6 +145,17 @@ impl Bag {
         ensures { slice_get self.now.messages i ≡ Some result }
     {
         *self.at(i)
+    }
+
+    /// The place of the oldest message to the party, counted from 0. Where the party's count tells that there is none,
+    /// no message is looked at.
+    pub fn oldest_to(&self, who: Party) -> Option<u32>
+        ensures { result ≡ oldest_to who self.now.messages }
+    {
+        if !has_some(&self.counts, who) {
+            return None;
+        }
+        first_to(&self.boxes[..self.count as usize], who)
     }
 
     /// Whether no message is from the party.

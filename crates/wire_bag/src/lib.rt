@@ -1,6 +1,7 @@
 //! The messages on their way, as a list of packets in bytes.
 #![tactic(auto)]
 
+mod addressees;
 mod bag;
 
 pub use bag::Bag;

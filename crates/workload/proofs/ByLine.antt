@@ -37,13 +37,13 @@ line_faulty text n m w lines rest line fault r e c f =
     rw r (line_fails n w lines rest line fault e g)
 
 -- something stands there
-abbrev IsText : Pieces → Type 0
+abbrev pub IsText : Pieces → Type 0
 IsText [] = ⊥
 IsText ([] ∷ []) = ⊥
 IsText ((b ∷ bs) ∷ []) = ⊤
 IsText (line ∷ next ∷ more) = ⊤
 
-is_text : (b : ℕ) (bs : List ℕ) → IsText (pieces 10 (b ∷ bs))
+pub is_text : (b : ℕ) (bs : List ℕ) → IsText (pieces 10 (b ∷ bs))
 is_text b bs =
     let p = some_piece 10 bs in
     elim (nat_eq b 10) as (λ v. IsText (cond v ([] ∷ pieces 10 bs) (with_byte b (pieces 10 bs)))) [
@@ -61,7 +61,7 @@ fault_is x = Err x
 pub same_err : (A : Type 0) (x y : WorkFault) → fault_is {A = A} x ≡ fault_is y → x ≡ y
 same_err A x y e = cc
 
-carried : (A B : Type 0) (x fault : WorkFault) → Fails fault (fault_is {A = A} x) → Fails fault (fault_is {A = B} x)
+pub carried : (A B : Type 0) (x fault : WorkFault) → Fails fault (fault_is {A = A} x) → Fails fault (fault_is {A = B} x)
 carried A B x (BadLine k) f = ap (λ (y : WorkFault). fault_is {A = B} y) (same_err A x (BadLine k) f)
 carried A B x (TooLarge which k) f = ap (λ (y : WorkFault). fault_is {A = B} y) (same_err A x (TooLarge which k) f)
 carried A B x Memory f = tt

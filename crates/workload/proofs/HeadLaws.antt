@@ -35,7 +35,7 @@ behind_again name rest =
 
 -- ---- a line with a size
 
-abbrev IsSize : ℕ → ℕ → ℕ → Type 0
+abbrev pub IsSize : ℕ → ℕ → ℕ → Type 0
 IsSize least most k = (least ≤ k) × (k ≤ most)
 
 size_by : (n least most : ℕ) (which : Limit) (found : Option ℕ) (k : ℕ) → sized_by n least most which found ≡ Ok k → (found ≡ Some k) × IsSize least most k
@@ -55,13 +55,13 @@ size_by n least most which (Some m) k e =
     ] refl e
 
 -- the line of a size, and the text behind it
-record IsSizeLine (name : List ℕ) (least most : ℕ) (bytes : List ℕ) (k : ℕ) (lines : Pieces) : Type 0 where
-  rest : List ℕ
-  whole : bytes ≡ number_line name k ++ rest
-  behind : lines ≡ pieces 10 rest
-  fits : IsSize least most k
+pub record IsSizeLine (name : List ℕ) (least most : ℕ) (bytes : List ℕ) (k : ℕ) (lines : Pieces) : Type 0 where
+  pub rest : List ℕ
+  pub whole : bytes ≡ number_line name k ++ rest
+  pub behind : lines ≡ pieces 10 rest
+  pub fits : IsSize least most k
 
-size_takes : (n : ℕ) (name : List ℕ) (least most : ℕ) (which : Limit) (bytes : List ℕ) (x : ℕ × Pieces) → size_of n name least most which (pieces 10 bytes) ≡ Ok x → IsSizeLine name least most bytes x.0 x.1
+pub size_takes : (n : ℕ) (name : List ℕ) (least most : ℕ) (which : Limit) (bytes : List ℕ) (x : ℕ × Pieces) → size_of n name least most which (pieces 10 bytes) ≡ Ok x → IsSizeLine name least most bytes x.0 x.1
 size_takes n name least most which bytes x e =
     let a = bind_ok (next_line n (pieces 10 bytes)) (λ l. sized (n + 1) name least most which l.0 andthen λ k. Ok (k, l.1)) x e in
     let b = bind_ok (sized (n + 1) name least most which a.0.0) (λ k. Ok (k, a.0.1)) x a.2 in
@@ -77,7 +77,7 @@ size_takes n name least most which bytes x e =
     } in
     subst (λ (y : ℕ × Pieces). IsSizeLine name least most bytes y.0 y.1) (same_ok (b.0, a.0.1) x b.2) made
 
-size_again : (n : ℕ) (name : List ℕ) (least most : ℕ) (which : Limit) (k : ℕ) (rest : List ℕ) → lacks 10 name ≡ true → most ≤ STEP_LIMIT → IsSize least most k → size_of n name least most which (pieces 10 (number_line name k ++ rest)) ≡ Ok (k, pieces 10 rest)
+pub size_again : (n : ℕ) (name : List ℕ) (least most : ℕ) (which : Limit) (k : ℕ) (rest : List ℕ) → lacks 10 name ≡ true → most ≤ STEP_LIMIT → IsSize least most k → size_of n name least most which (pieces 10 (number_line name k ++ rest)) ≡ Ok (k, pieces 10 rest)
 size_again n name least most which k rest l small h =
     let fits : IsNumber k = omega (arith, small, h.1) in
     let no_end : lacks 10 (name ++ decimal k) ≡ true = lacks_join 10 name (decimal k) l (number_lacks 10 k (omega arith) fits) in

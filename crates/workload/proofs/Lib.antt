@@ -14,5 +14,6 @@ pub mod StepLaws
 pub mod Taken
 pub mod ReadingLaws
 pub mod PrintedLaws
+pub mod Sizes
 pub mod FaultLaws
 pub mod TextLaws

@@ -102,6 +102,11 @@ pub record IsReading (text : List ℕ) (w : WorkView) : Type 0 where
   pub name : Name forms w
   pub within : IsWithin w
 
+-- what the types of keys and bodies give of all lines
+pub record IsWhole (w : WorkView) : Type 0 where
+  pub ops : AllByRecursion IsWholeOp w.plan.ops
+  pub orders : AllByRecursion IsWholeOrder w.plan.orders
+
 -- this workload was read, or memory was refused
 abbrev pub IsReadAs : Result WorkView WorkFault → WorkView → Type 0
 IsReadAs (Ok found) w = found ≡ w

@@ -3,6 +3,7 @@
 
 mod fault;
 mod generator;
+mod laws;
 mod lines;
 mod load;
 mod parser;
@@ -12,6 +13,8 @@ mod words;
 
 pub use fault::{Limit, WorkFault};
 pub use generator::generate;
+pub use laws::printed_is_read;
+pub use lines::{next_line, size};
 pub use load::{PICK_LIMIT, Workload};
 pub use parser::parse;
 pub use picker::Picker;

@@ -15,9 +15,9 @@ fn named_number(line: &[u8], name: &[u8]) -> Option<u64>
     number_of(line.strip_prefix(name)?)
 }
 
-/// The next whole line.
+/// The next whole line. `BadLine` where none is left, with the number that it would have.
 #[tactic(auto, using(crate::proofs::NextLine::line_next, crate::proofs::NextLine::line_missing))]
-pub(crate) fn next_line<'a>(lines: &mut Lines<'a>) -> Result<&'a [u8], WorkFault>
+pub fn next_line<'a>(lines: &mut Lines<'a>) -> Result<&'a [u8], WorkFault>
     requires { lines.old.read + 1 < 2 ^ 32 }
     ensures line { Gives (λ line. (line.now, pieces 10 lines.new.rest.now)) result
         (next_line lines.old.read (pieces 10 lines.old.rest.now)) }
@@ -43,7 +43,8 @@ fn title(lines: &mut Lines) -> Result<(), WorkFault>
     }
 }
 
-fn size(
+/// The number behind a name, on a line of its own, within these bounds.
+pub fn size(
     lines: &mut Lines,
     name: &[u8],
     least: u32,
@@ -55,6 +56,7 @@ fn size(
         (size_of lines.old.read name.now least most which (pieces 10 lines.old.rest.now)) }
     ensures shorter { IfOk result (λ _. length lines.new.rest.now < length lines.old.rest.now) }
     ensures count { IfOk result (λ _. lines.new.read ≡ lines.old.read + 1) }
+    ensures within { IfOk result (λ k. (least ≤ k) × (k ≤ most)) }
 {
     let line = next_line(lines)?;
     let Some(number) = named_number(line, name) else {

@@ -1,4 +1,4 @@
-ghost use Rattle.std.specs.Prelude.{◌≡◌, ◌≤◌, ◌++◌, map, IfOk};
+ghost use Rattle.std.specs.Prelude.{◌≡◌, ◌≤◌, ◌<◌, ◌^◌, ◌++◌, length, map, IfOk};
 ghost use Rattle.std.specs.List.{AllByRecursion};
 ghost use Rattle.far_base.specs.Key.{key_text};
 ghost use Rattle.far_base.specs.Padded.{length_of};
@@ -207,6 +207,8 @@ pub fn print(alloc: Global, load: &Workload) -> Result<Vec<u8>, Memory>
     ensures text { IfOk result (λ text. text.items ≡ spelling load.now) }
     // What is printed reads as the workload again.
     ensures reads { IfOk result (λ text. IsReading text.items load.now) }
+    // It is short enough to be read.
+    ensures short { IfOk result (λ text. length text.items < 2 ^ 32) }
 {
     let mut out = Vec::new(alloc);
     put_head(&mut out, &load.plan.config)?;

@@ -72,6 +72,17 @@ fn generated_work_and_its_picks(rt: HostRuntime) -> Result<(), Fail> {
     Ok(())
 }
 
+#[test]
+fn much_work_is_read_as_it_was_printed(rt: HostRuntime) -> Result<(), Fail> {
+    let load = generate(rt.alloc(), 7, 50000).ok().ok_or("not generated")?;
+    let printed = print(rt.alloc(), &load).ok().ok_or("not printed")?;
+    let again = parse(rt.alloc(), &printed).ok().ok_or("not read")?;
+    assert_eq!(rt; again.plan.ops.len(), 50000);
+    let second = print(rt.alloc(), &again).ok().ok_or("not printed")?;
+    assert!(rt; second.as_slice() == printed.as_slice());
+    Ok(())
+}
+
 /// The first twenty draws of three start numbers, by another implementation of the generator.
 const DRAWS: [(u64, [u64; 20]); 3] = [
     (

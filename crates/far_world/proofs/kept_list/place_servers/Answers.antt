@@ -9,6 +9,7 @@ loop-server-init g c = record {
   records = refl;
   servers = refl;
   ceiling = refl;
+  unfailed = refl;
   later = omega arith;
 }
 
@@ -22,6 +23,7 @@ loop-server-preserved g c =
       records = c.place_server.ensures.same_records ∙ h.records;
       servers = c.place_server.ensures.same_servers ∙ h.servers;
       ceiling = c.place_server.ensures.same_ceiling ∙ h.ceiling;
+      unfailed = c.in_ok-place_server.ensures.unfailed ∙ h.unfailed;
       later = omega (arith, h.later, c.place_server.ensures.later);
     }
 

@@ -9,5 +9,6 @@ invariant-loop-server g l = record {
   records : g.K.Keeper.records l.keeper ≡ g.K.Keeper.records l.initial.keeper;
   servers : g.K.Keeper.server_count l.keeper ≡ g.K.Keeper.server_count l.initial.keeper;
   ceiling : g.K.Keeper.ceiling l.keeper ≡ g.K.Keeper.ceiling l.initial.keeper;
+  unfailed : g.K.Keeper.fault_count l.keeper ≡ g.K.Keeper.fault_count l.initial.keeper;
   later : g.K.Keeper.fault_count l.initial.keeper ≤ g.K.Keeper.fault_count l.keeper;
 }

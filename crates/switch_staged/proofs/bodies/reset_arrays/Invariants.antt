@@ -1,4 +1,4 @@
-use Rattle.std.proofs.Common.{◌≡◌, length, replicate, take}
+use Rattle.std.proofs.Common.{◌≡◌, ℕ, length, replicate, take}
 use Rattle.switch_staged.specs.Rows.{zero_cell}
 use Rattle.switch_staged.specs.Stages.{IsPart, all_cells}
 use Rattle.switch_staged.proofs.bodies.reset_arrays.Given as goal
@@ -7,6 +7,6 @@ use Rattle.switch_staged.proofs.bodies.reset_arrays.Given as goal
 abbrev pub invariant-loop-k : goal.invariant-loop-k
 invariant-loop-k l = record {
   cells : take l.k (all_cells l.arrays) ≡ replicate l.k (replicate l.slots zero_cell);
-  count : length l.arrays ≡ 32;
-  part : IsPart 5 l.slots l.arrays;
+  count : length l.arrays ≡ length l.fn.arrays;
+  part : (first : ℕ) → IsPart first l.slots l.fn.arrays → IsPart first l.slots l.arrays;
 }

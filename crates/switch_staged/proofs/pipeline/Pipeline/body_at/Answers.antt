@@ -1,13 +1,19 @@
 use Rattle.std.proofs.Common.{rules, arith, sym, subst, ap, ◌∙◌, ◌-◌, ◌<◌, []}
 use Rattle.std.specs.Prelude.{slice_index_or}
 use Rattle.switch_staged.specs.Rows.{zero_cell}
-use Rattle.switch_staged.specs.Stages.{all_cells}
+use Rattle.switch_staged.specs.Stages.{IsPart, all_cells}
 use Rattle.far_model.specs.View.{slot_at}
 use Rattle.switch_staged.specs.Line.{final}
 use Rattle.switch_staged.specs.Overlap.{PipelineView, IsRun, passed, body_cell}
 use Rattle.switch_staged.specs.Pipelined.{pipeline_view}
 use Rattle.switch_staged.proofs.BodyLaws.{run_body}
 use Rattle.switch_staged.proofs.pipeline.Pipeline.body_at.Goals as goal
+
+pub cell_in-requires-clause-at : goal.cell_in-requires-clause-at
+cell_in-requires-clause-at c = omega (arith, c.requires.from, c.requires.to, c.self.invariant.staged.count)
+
+pub cell_in-requires-clause-part : goal.cell_in-requires-clause-part
+cell_in-requires-clause-part c = (5, c.self.inside.config.slots, subst (λ n. c.args.slot < n) (ap (λ (v : PipelineView). v.config.slots) (sym c.self.view_is)) c.requires.slot, subst (IsPart 5 c.self.inside.config.slots) (sym c.deref.ensures.value) c.self.invariant.staged.part)
 
 pub returns : goal.returns
 returns c = λ start entered answered h.
