@@ -1,3 +1,1 @@
 mod Moves
-mod SameBodies
-mod TurnLaws

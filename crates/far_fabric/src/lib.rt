@@ -3,9 +3,7 @@
 #![tactic(auto)]
 
 mod board;
-mod plans;
 mod running;
-mod shared;
 pub mod view;
 mod watch;
 mod workers;

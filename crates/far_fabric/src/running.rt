@@ -1,86 +1,53 @@
-ghost use Rattle.std.specs.Prelude.{◌≡◌, true, IfOk};
+ghost use Rattle.std.specs.Prelude.{◌≡◌, IfOk};
 ghost use Rattle.far_base.specs.Limits.{IsPlan};
-ghost use Rattle.far_model.specs.Runs as runs;
 ghost use Rattle.far_model.specs.View.{opening_view};
-ghost use Rattle.far_world.specs.Reached.{IsReached, IsRunOf};
+ghost use Rattle.far_fabric.specs.Known.{publisher};
+ghost use Rattle.far_runner.specs.Ended.{IsEndOf};
 ghost use Rattle.far_world.specs.Scene.{Tells};
 
-use crate::board::Board;
-use crate::plans::{copied, same_plan};
-use crate::shared::Shared;
+use crate::board::{Board, BoardPass};
 use crate::watch::Publisher;
 use crate::workers::run_workers;
-use far_base::{Memory, Plan};
+use far_base::{Config, Memory};
 use far_outside::Gate;
-use far_runner::pump;
+use far_runner::{Crew, WorldLock, ended, party_count, started};
 use far_world::World;
 use server_keeper::MapKeeper;
 use std::alloc::Global;
-use std::sync::{Condvar, Mutex, Wait};
+use std::sync::Wait;
 use std::thread::Threads;
 use switch_core::Switch;
 use workload::Workload;
 
-/// The world of the plan, in which nothing has happened yet.
-fn started<S: Switch + Drop>(
-    alloc: Global,
-    plan: &Plan,
-    switch: S,
-) -> Result<World<S, MapKeeper>, Memory>
-    requires valid { IsPlan plan.now }
-    requires view { S.seen switch ≡ opening_view plan.now.config 1 0 }
-    ensures plan { IfOk result (λ world. world.plan ≡ plan.now) }
-    ensures tells { IfOk result (λ world. Tells world.keeper.records) }
-{
-    let plan = copied(alloc, plan)?;
-    match World::start(alloc, plan, switch, MapKeeper::new(alloc)) {
-        Ok(world) => Ok(world),
-        Err(_) => Err(Memory),
+/// A crew of one for each party, in the order of the row of all.
+fn all_alone(alloc: Global, config: Config) -> Result<Vec<Crew>, Memory> {
+    let mut crews = Vec::new(alloc);
+    for place in 0..party_count(config) {
+        crews.reserve(1)?;
+        crews.push_reserved(Crew::one(config, place));
     }
+    Ok(crews)
 }
 
-/// The world after the turns that workers in threads took.
-fn in_threads<S: Switch + Send + Drop, G: Gate + Sync, R: Threads + Wait + Sync>(
+/// The world after the turns that workers in threads took. The switch's worker publishes on the board.
+pub(crate) fn in_threads<S: Switch + Send + Drop, G: Gate + Sync, R: Threads + Wait + Sync>(
     rt: &R,
     alloc: Global,
     gate: &G,
+    board: &Board,
+    pass: BoardPass,
     world: World<S, MapKeeper>,
 ) -> Result<World<S, MapKeeper>, Memory>
-    requires { Tells world.keeper.records }
+    requires tells { Tells world.keeper.records }
+    requires board { pass.board ≡ board.now }
+    requires publisher { pass.view ≡ publisher }
     ensures { IfOk result (λ after. Tells after.keeper.records) }
 {
     let config = world.plan().config;
-    let (board, pass) = Board::new(alloc)?;
-    let lock = Mutex::new(Shared::new(world));
-    let changed = Condvar::new();
-    run_workers(
-        rt,
-        gate,
-        &lock,
-        &changed,
-        Publisher::new(&board, pass),
-        config,
-    );
-    Ok(lock.into_inner().into_world())
-}
-
-/// The world where it is one of this plan; else a new one of this plan, with its switch.
-fn of_plan<S: Switch + Drop>(
-    alloc: Global,
-    plan: &Plan,
-    world: World<S, MapKeeper>,
-) -> Result<World<S, MapKeeper>, Memory>
-    requires valid { IsPlan plan.now }
-    requires tells { Tells world.keeper.records }
-    ensures plan { IfOk result (λ after. after.plan ≡ plan.now) }
-    ensures tells { IfOk result (λ after. Tells after.keeper.records) }
-{
-    if same_plan(world.plan(), plan) {
-        return Ok(world);
-    }
-    let (_plan, _events, _log, mut switch, _keeper) = world.into_parts();
-    switch.renew(plan.config, 1, 0)?;
-    started(alloc, plan, switch)
+    let crews = all_alone(alloc, config)?;
+    let lock = WorldLock::new(alloc, world, &crews)?;
+    run_workers(rt, gate, &lock, Publisher::new(board, pass), config);
+    Ok(lock.into_world())
 }
 
 /// Runs the workload's plan with a worker in a thread of its own for each client, each server, the switch and the
@@ -95,19 +62,10 @@ pub fn run_threads<S: Switch + Send + Drop, G: Gate + Sync, R: Threads + Wait + 
 ) -> Result<World<S, MapKeeper>, Memory>
     requires valid { IsPlan load.now.plan }
     requires view { S.seen switch ≡ opening_view load.now.plan.config 1 0 }
-    ensures plan { IfOk result (λ world. world.plan ≡ load.now.plan) }
-    ensures finished { IfOk result (λ world. runs.is_finished world.plan world.state ≡ true) }
-    ensures run { IfOk result (λ world. IsRunOf world.plan world.events world.state) }
-    ensures reached { IfOk result IsReached }
-    ensures tells { IfOk result (λ world. Tells world.keeper.records) }
+    ensures { IfOk result (IsEndOf load.now.plan) }
 {
     let world = started(alloc, &load.plan, switch)?;
-    let world = in_threads(rt, alloc, gate, world)?;
-    let mut world = of_plan(alloc, &load.plan, world)?;
-    if pump(&mut world, load).is_err() {
-        return Err(Memory);
-    }
-    // The world tells that it is reached.
-    let _log = world.log();
-    Ok(world)
+    let (board, pass) = Board::new(alloc)?;
+    let world = in_threads(rt, alloc, gate, &board, pass, world)?;
+    ended(alloc, load, &load.plan, world)
 }

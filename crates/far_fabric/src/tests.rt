@@ -2,10 +2,13 @@ ghost use Rattle.std.specs.Prelude.{◌≡◌, ◌<◌, ◌^◌, length, IfOk};
 ghost use Rattle.far_base.specs.Limits.{IsPlan};
 
 use crate::board::Board;
-use crate::running::run_threads;
+use crate::running::{in_threads, run_threads};
 use crate::view::Figures;
-use far_outside::NoGate;
+use far_base::Party;
+use far_outside::{Gate, NoGate};
+use far_runner::started;
 use std::alloc::Global;
+use std::sync::atomic::{AtomicU64, Ordering};
 use std::test::Fail;
 use switch_core::PlainSwitch;
 use workload::{Workload, parse};
@@ -56,5 +59,81 @@ fn a_run_in_threads_is_finished(rt: HostRuntime) -> Result<(), Fail> {
     let world = run_threads(&rt, alloc, &load, switch, &NoGate).map_err(|_| "no world")?;
     assert_eq!(rt; world.log().steps(), 10);
     assert_eq!(rt; world.last_answered(), Some(2));
+    Ok(())
+}
+
+/// A gate that keeps, for each kind of party, the number of its last pass, and for the switch all numbers of its passes,
+/// one hexadecimal digit each.
+#[derive(Drop)]
+struct Noting {
+    client: AtomicU64,
+    server: AtomicU64,
+    controller: AtomicU64,
+    switch: AtomicU64,
+}
+
+impl Noting {
+    fn new() -> Self {
+        Noting {
+            client: AtomicU64::new(0),
+            server: AtomicU64::new(0),
+            controller: AtomicU64::new(0),
+            switch: AtomicU64::new(0),
+        }
+    }
+}
+
+impl Gate for Noting {
+    fn pass(&self, who: Party, seen: u64) {
+        match who {
+            Party::Client(_) => self.client.store(seen, Ordering::SeqCst),
+            Party::Server(_) => self.server.store(seen, Ordering::SeqCst),
+            Party::Controller => self.controller.store(seen, Ordering::SeqCst),
+            Party::Switch => {
+                let before = self.switch.load(Ordering::SeqCst);
+                self.switch
+                    .store((before << 4) | (seen & 15), Ordering::SeqCst);
+            }
+        }
+    }
+
+    fn after(&self, _who: Party, _answered: Option<u32>) {}
+}
+
+/// Where one event after the other can happen, the switch's worker publishes after the steps 2, 4, 7 and 9, the last time
+/// with the one operation that is answered by then; and the others' workers see before each of their turns what was
+/// published before the last message to them was sent.
+#[test]
+fn every_worker_sees_what_the_switch_publishes(rt: HostRuntime) -> Result<(), Fail> {
+    let alloc = rt.alloc();
+    let load = workload_of(alloc, PUT_AND_GET)?;
+    let switch = PlainSwitch::new(alloc, load.plan.config, 1, 0).map_err(|_| "no switch")?;
+    let world = started(alloc, &load.plan, switch).map_err(|_| "no world")?;
+    let (board, mut publisher) = Board::new(alloc).map_err(|_| "no board")?;
+    let mut reader = board.split(&rt, &mut publisher);
+    let gate = Noting::new();
+    let world = in_threads(&rt, alloc, &gate, &board, publisher, world).map_err(|_| "no end")?;
+    assert!(rt; world.finished());
+    assert_eq!(rt; board.read(&rt, &mut reader), figures(9, 1));
+    assert_eq!(rt; gate.switch.load(Ordering::SeqCst), 0x2479);
+    assert!(rt; gate.client.load(Ordering::SeqCst) >= 7);
+    assert!(rt; gate.server.load(Ordering::SeqCst) >= 4);
+    Ok(())
+}
+
+const WITH_AN_ORDER: &[u8] =
+    b"far 1\nclients 1\nservers 1\nslots 1\nhot 0\nput 0 a =x\nget 0 a\nadmit 6 a\n";
+
+/// The controller's worker reads the board too: the packet that tells it that a key was admitted comes after the switch
+/// has published at least step 4.
+#[test]
+fn the_controller_sees_what_the_switch_publishes(rt: HostRuntime) -> Result<(), Fail> {
+    let alloc = rt.alloc();
+    let load = workload_of(alloc, WITH_AN_ORDER)?;
+    let switch = PlainSwitch::new(alloc, load.plan.config, 1, 0).map_err(|_| "no switch")?;
+    let gate = Noting::new();
+    let world = run_threads(&rt, alloc, &load, switch, &gate).map_err(|_| "no world")?;
+    assert!(rt; world.finished());
+    assert!(rt; gate.controller.load(Ordering::SeqCst) >= 4);
     Ok(())
 }

@@ -1,96 +1,63 @@
-use crate::shared::{Made, Shared};
+ghost use Rattle.std.specs.Prelude.{◌≡◌};
+
+use crate::view::Figures;
 use crate::watch::{Publisher, Viewer};
 use far_base::{Config, Party};
 use far_outside::Gate;
-use std::sync::{Condvar, Mutex, Wait};
+use far_runner::{Made, Watch, WorldLock, party_count, work};
+use std::sync::Wait;
 use std::thread;
 use std::thread::Threads;
 use switch_core::Switch;
 
-/// One turn of the party under the lock, as soon as it has an event. `None` where the workers are to end.
-fn take_turn<S: Switch + Drop, R: Wait>(
-    rt: &R,
-    lock: &Mutex<Shared<S>>,
-    changed: &Condvar,
-    who: Party,
-) -> Option<Made> {
-    let mut shared = lock.lock(rt);
-    for _ in rt.forever() {
-        if let Some(made) = shared.turn(who) {
-            changed.notify_all();
-            return Some(made);
-        }
-        if shared.is_over() {
-            break;
-        }
-        shared = changed.wait(rt, shared);
-    }
-    changed.notify_all();
-    None
+/// The worker of a client, a server or the controller reads the board before it passes the gate.
+#[derive(Drop)]
+struct Reader<'b, G: Gate> {
+    gate: &'b G,
+    viewer: Viewer<'b>,
 }
 
-/// The worker of a client, a server or the controller.
-fn work<S: Switch + Drop, G: Gate, R: Wait>(
-    rt: &R,
-    gate: &G,
-    lock: &Mutex<Shared<S>>,
-    changed: &Condvar,
-    mut viewer: Viewer,
-    who: Party,
-) {
-    for _ in rt.forever() {
-        let seen = viewer.read(rt);
-        gate.pass(who, seen.steps);
-        match take_turn(rt, lock, changed, who) {
-            Some(made) => gate.after(who, made.answered),
-            None => break,
-        }
+impl<'b, G: Gate, R: Wait> Watch<R> for Reader<'b, G> {
+    fn before(&mut self, rt: &R, who: Party) {
+        let seen = self.viewer.read(rt);
+        self.gate.pass(who, seen.steps);
+    }
+
+    fn held(&self) {}
+
+    fn after(&mut self, _rt: &R, made: &Made) {
+        self.gate.after(made.who, made.answered);
     }
 }
 
-/// The worker of the switch, which alone publishes: after each of its turns and before the next one.
-fn work_as_switch<S: Switch + Drop, G: Gate, R: Wait>(
-    rt: &R,
-    gate: &G,
-    lock: &Mutex<Shared<S>>,
-    changed: &Condvar,
-    mut publisher: Publisher,
-) {
-    for _ in rt.forever() {
-        let seen = publisher.read(rt);
-        gate.pass(Party::Switch, seen.steps);
-        match take_turn(rt, lock, changed, Party::Switch) {
-            Some(made) => {
-                publisher.publish(rt, made.figures);
-                gate.after(Party::Switch, made.answered);
-            }
-            None => break,
-        }
+/// The worker of the switch alone publishes: after each of its turns and before the next one.
+#[derive(Drop)]
+struct Writer<'b, G: Gate> {
+    gate: &'b G,
+    publisher: Publisher<'b>,
+}
+
+impl<'b, G: Gate, R: Wait> Watch<R> for Writer<'b, G> {
+    fn before(&mut self, rt: &R, who: Party) {
+        let seen = self.publisher.read(rt);
+        self.gate.pass(who, seen.steps);
+    }
+
+    fn held(&self) {}
+
+    fn after(&mut self, rt: &R, made: &Made) {
+        self.publisher.publish(rt, figures_of(made));
+        self.gate.after(made.who, made.answered);
     }
 }
 
-/// Sets the mark, which ends the workers.
-fn end_all<S: Switch + Drop, R: Wait>(rt: &R, lock: &Mutex<Shared<S>>, changed: &Condvar) {
-    lock.lock(rt).end();
-    changed.notify_all();
-}
-
-/// How many parties there are beside the switch: clients, servers and the controller.
-fn party_count(config: Config) -> u32 {
-    config
-        .clients
-        .saturating_add(config.servers)
-        .saturating_add(1)
-}
-
-/// The party of a worker: the clients come first, then the servers, and last the controller.
-fn party_at(config: Config, place: u32) -> Party {
-    if place < config.clients {
-        Party::Client(place)
-    } else if place - config.clients < config.servers {
-        Party::Server(place - config.clients)
-    } else {
-        Party::Controller
+/// How far the run is after a turn.
+fn figures_of(made: &Made) -> Figures
+    ensures { result ≡ record { steps = made.now.steps; answered = made.now.answers } }
+{
+    Figures {
+        steps: made.steps,
+        answered: made.answers,
     }
 }
 
@@ -99,29 +66,29 @@ fn party_at(config: Config, place: u32) -> Party {
 pub(crate) fn run_workers<'x, S: Switch + Send + Drop, G: Gate + Sync, R: Threads + Wait + Sync>(
     rt: &'x R,
     gate: &'x G,
-    lock: &'x Mutex<Shared<S>>,
-    changed: &'x Condvar,
+    lock: &'x WorldLock<S>,
     publisher: Publisher<'x>,
     config: Config,
 ) {
     thread::scope(thread::scope_env(), rt, |scope| {
         let mut publisher = publisher;
-        for place in 0..party_count(config) {
+        // The switch is the last of all parties.
+        let switch = party_count(config).saturating_sub(1);
+        for place in 0..switch {
             let viewer = publisher.viewer(rt);
-            let who = party_at(config, place);
             if scope
-                .spawn(move || work(rt, gate, lock, changed, viewer, who))
+                .spawn(move || work(rt, lock, place, Reader { gate, viewer }))
                 .is_err()
             {
-                end_all(rt, lock, changed);
+                lock.end_all(rt);
                 break;
             }
         }
         if scope
-            .spawn(move || work_as_switch(rt, gate, lock, changed, publisher))
+            .spawn(move || work(rt, lock, switch, Writer { gate, publisher }))
             .is_err()
         {
-            end_all(rt, lock, changed);
+            lock.end_all(rt);
         }
     });
 }

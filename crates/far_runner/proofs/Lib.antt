@@ -1,3 +1,7 @@
+mod Answering
+mod Bounding
 mod Picking
 mod Pumping
+mod SameBodies
 mod ToRecovery
+mod TurnLaws

@@ -11,11 +11,11 @@ use Rattle.far_model.specs.Clients.{ClientState}
 use Rattle.far_model.specs.Controller.{tick, ready}
 use Rattle.far_model.specs.Events.{can_deliver, can_recover, can_send, choice_if, choices, deliver_choices, happens, is_order_enabled, send_choices}
 use Rattle.far_model.specs.Members.{Each}
-use Rattle.far_model.specs.Runs.{IsPickedFrom, choice, is_quiet, next_event, picks_after}
+use Rattle.far_model.specs.Runs.{ArePicked, IsPickedFrom, choice, is_quiet, next_event, picks_after}
 use Rattle.far_model.specs.State.{State}
 use Rattle.far_runner.specs.Picked.{IsAt, is_order, pick_of}
 use Rattle.workload.specs.Picks.{Picking}
-use Rattle.far_runner.specs.Pumped.{ArePicked, HasGone, HasPumped, HasPumpedSome}
+use Rattle.far_runner.specs.Pumped.{HasGone, HasPumped, HasPumpedSome}
 use Rattle.far_world.specs.Reached.{HasStepped, Ran, with_count}
 use Rattle.far_world.specs.Scene.{Tells}
 use Rattle.workload.specs.WorkView.{WorkView}
@@ -140,13 +140,14 @@ failed work old new next count n faults p same = subst (λ (z : Ran). HasPumpedS
   picked = p.so_far;
 })
 
--- n picks were used, the next one is drawn, and the picker stands after it
+-- n picks were used, the next one is drawn, and the picker stands after it; no call of the keeper failed
 pub record IsPumping (work : WorkView) (old now : Ran) (count : ℕ) (picker : Picking) (pick : ℕ) : Type 0 where
   pub n : ℕ
   pub pumping : Pumping work old now count n
   pub pick_is : pick ≡ pick_of work n
   pub at : IsAt work (n + 1) picker
   pub later : old.keeper.faults ≤ now.keeper.faults
+  pub still : now.keeper.faults ≡ old.keeper.faults
 
 -- the events since are not more than all
 pub few_made : (work : WorkView) (old new next : Ran) (count n pick : ℕ) (e : Event) → Pumping work old new count n → HasStepped new pick e next → count < 2 ^ 28

@@ -1,2 +1,5 @@
+pub mod Ended
 pub mod Picked
 pub mod Pumped
+pub mod SharedView
+pub mod Turns

@@ -1,24 +1,15 @@
 -- How far a world was run by the picks of a workload.
-use Rattle.std.specs.Prelude.{◌≡◌, ◌≢◌, ℕ, ◌+◌, ◌≤◌, false, List, [], ◌∷◌, ◌++◌, length, is_some}
-use Rattle.far_base.specs.PlanView.{PlanView}
+use Rattle.std.specs.Prelude.{◌≡◌, ◌≢◌, ℕ, ◌+◌, ◌≤◌, List, [], ◌∷◌, ◌++◌, length, is_some}
 use Rattle.far_base.specs.declared.event.Event.{Event}
 use Rattle.far_base.specs.declared.event.Event.TheVariants.{Recover}
-use Rattle.far_model.specs.Events.{happens}
 use Rattle.far_model.specs.Kept.{kept_records}
 use Rattle.far_model.specs.Members.{Each}
-use Rattle.far_model.specs.Runs.{IsPickedFrom, is_quiet, next_event, picks_after, run}
-use Rattle.far_model.specs.State.{State}
+use Rattle.far_model.specs.Runs.{ArePicked, IsPickedFrom, run}
 use Rattle.far_model.specs.Work.{work_left}
 use Rattle.far_runner.specs.Picked.{pick_of}
 use Rattle.far_world.specs.Reached.{Ran}
 use Rattle.far_world.specs.Scene.{Tells}
 use Rattle.workload.specs.WorkView.{WorkView}
-
--- each event is the one that the picks from number n on choose in its turn
-abbrev pub ArePicked : PlanView → (ℕ → ℕ) → ℕ → State → List Event → Type 0
-ArePicked plan pick n s [] = Unit {0}
-ArePicked plan pick n s (e ∷ es) = (is_quiet plan s ≡ false) × (e ≡ next_event plan s (pick n))
-    × ArePicked plan pick (picks_after plan s n) (happens plan s e) es
 
 -- the world has gone on by these events
 pub record HasGone (old new : Ran) (made : List Event) : Type 0 where

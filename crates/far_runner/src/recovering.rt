@@ -1,4 +1,4 @@
-ghost use Rattle.std.specs.Prelude.{◌≡◌, ◌≢◌, [], ◌≤◌, false, true, IfOk, OnErr, IsErrOf};
+ghost use Rattle.std.specs.Prelude.{◌≡◌, ◌≢◌, [], ◌≤◌, false, true, IfOk, OnErr, OnOk, IsErrOf};
 ghost use Rattle.std.specs.List.{list_any};
 ghost use Rattle.far_base.specs.Limits.{is_stop};
 ghost use Rattle.far_base.specs.declared.event.Event.TheVariants.{Recover};
@@ -47,6 +47,7 @@ pub fn pump_to_recover<S: Switch + Drop, K: Keeper + Drop>(
     requires no_step { world.old.events ≡ [] }
     ensures pumped { IfOk result (λ count. HasPumpedToRecover load.now world.old world.new count) }
     ensures some { OnErr result (HasPumpedSome load.now world.old world.new) }
+    ensures unfailed { OnOk result (world.new.keeper.faults ≡ world.old.keeper.faults) }
     ensures later { world.old.keeper.faults ≤ world.new.keeper.faults }
     ensures cause { IsErrOf result StepFault.KeeperFailed → Rose world.old.keeper.faults world.new.keeper.faults }
 {

@@ -20,6 +20,7 @@ loop-picker-init g c =
         pick_is = c.next-pick.ensures.pick ∙ (next_is c.args.load.now 0 c.new-picker.result first).0;
         at = subst (λ (p : Picking). IsAt c.args.load.now 1 p) (sym c.next-pick.ensures.rest) (next_is c.args.load.now 0 c.new-picker.result first).1;
         later = omega arith;
+        still = refl;
       };
       plain = none_yet c.args.world.now.events c.requires.no_step;
     }
@@ -35,6 +36,7 @@ loop-picker-preserved g c =
         pick_is = c.pick_after-pick.ensures.pick i.n i.at i.pick_is;
         at = c.pick_after-pick.ensures.at i.n i.at;
         later = omega (arith, i.later, c.step.ensures.later);
+        still = c.in_ok-event.ensures.unfailed ∙ i.still;
       };
       plain = each_push c.loop-picker.world.events c.step.new.self.events c.in_ok-event.event c.in_ok-event.ensures.stepped.events c.loop-picker.invariant.plain (c.begins_recovery.ensures.no c.if-begins_recovery.false);
     }

@@ -1,5 +1,0 @@
-use Rattle.std.proofs.Common.{◌≡◌, length, take}
-use Rattle.far_fabric.proofs.plans.same_ops.Given as goal
-
-abbrev pub invariant-loop-i : goal.invariant-loop-i
-invariant-loop-i l = (take l.i l.one ≡ take l.i l.other) × (length l.one ≡ length l.other)

@@ -1,0 +1,4 @@
+mod Filtering
+mod Parting
+mod Spread
+pub mod Zips
