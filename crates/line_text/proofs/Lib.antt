@@ -1,0 +1,4 @@
+pub mod LineLaws
+pub mod OutLaws
+pub mod Heads
+pub mod MeaningLaws

@@ -1,0 +1,4 @@
+pub mod WordLaws
+pub mod ByLine
+pub mod ReadingLaws
+pub mod TellingLaws

@@ -1,0 +1,9 @@
+pub mod FrameLaws
+pub mod WindowLaws
+pub mod SeenLaws
+pub mod NumberLaws
+pub mod Keeping
+pub mod Steps
+pub mod LinkLaws
+pub mod Serving
+pub mod Trials
