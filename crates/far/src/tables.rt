@@ -1,4 +1,4 @@
-ghost use Rattle.std.specs.Prelude.{◌≡◌, ◌≤◌, OnErr};
+ghost use Rattle.std.specs.Prelude.{◌≡◌, ◌≤◌, OnOk, OnErr};
 ghost use Rattle.far_outside.specs.Faults.{Rose};
 
 use far_base::{Key, Record};
@@ -114,6 +114,7 @@ struct Failing<K: Keeper + Drop> {
 
 /// Counts a call, which fails where it has the number.
 fn count_call(calls: &mut u64, fails: u64, faults: &mut u64) -> Result<(), KeeperFault>
+    ensures still { OnOk result (faults.new ≡ faults.old) }
     ensures later { faults.old ≤ faults.new }
     ensures cause { OnErr result (Rose faults.old faults.new) }
 {
@@ -128,6 +129,7 @@ fn count_call(calls: &mut u64, fails: u64, faults: &mut u64) -> Result<(), Keepe
 /// Counts a failure.
 fn noted<T>(faults: &mut u64, answer: Result<T, KeeperFault>) -> Result<T, KeeperFault>
     ensures same { result ≡ answer }
+    ensures still { OnOk result (faults.new ≡ faults.old) }
     ensures later { faults.old ≤ faults.new }
     ensures cause { OnErr result (Rose faults.old faults.new) }
 {

@@ -1,22 +1,22 @@
 -- How a top call ends: the cause of its answer, what it has written, and what was due.
 use Rattle.std.proofs.Common.{arith, ◌≡◌, ◌⊎◌, inl, inr, ℕ, List, ◌++◌, Option, Some, None, Err, take, refl, sym, ap, ◌∙◌, subst}
-use Rattle.std.specs.Prelude.{IfSome}
+use Rattle.std.specs.Prelude.{IfSome, is_some}
 use Rattle.far_outside.specs.Faults.{Rose}
 use Rattle.far_base.specs.declared.record.Record.{Record}
 use Rattle.run_main.proofs.Taskings.{if_some}
 use Rattle.run_main.specs.Commands.{MakesRun, Reads, input_of}
-use Rattle.run_main.specs.Lines.{bad_image_line, bad_line, conflict_line, refusal_line, too_large_line, usage_line}
-use Rattle.run_main.specs.Replay.{Tells}
+use Rattle.run_main.specs.Gone.{HasGoneIn, IsKeptBy, IsStillOrGone}
+use Rattle.run_main.specs.Lines.{bad_image_line, bad_line, conflict_line, refusal_line, too_large_line, usage_line, wrong_line}
 use Rattle.run_main.specs.Saying.{IsAnswer, IsAsked, IsEarlyFault, IsRunFault, IsTaskFault, Says, SettlesTask}
-use Rattle.run_main.specs.Tasks.{HasTask, IsOfKind, IsTask, MergesOnly}
+use Rattle.run_main.specs.Tasks.{HasTask, IsOfKind, MergesOnly}
 use Rattle.run_main.specs.Texts.{IsTextOf, SeesTask}
-use Rattle.run_main.specs.Top.{ComesBeforeRun, HasCause, IsDecided, IsDone, IsDue, IsOrMemory, IsSettled, IsUnsaid, MadeNoRun, ReadFirst, ReadToEnd, WroteDue}
+use Rattle.run_main.specs.Top.{ComesBeforeRun, HasCause, IsDecided, IsDone, IsDue, IsOrMemory, IsSettled, IsUnsaid, MadeNoRun, ReadFirst, WroteDue}
 use Rattle.run_main.specs.declared.command.Command.{Command}
-use Rattle.run_main.specs.declared.command.Command.TheVariants.{Replay, Image, Recover, Bulk}
+use Rattle.run_main.specs.declared.command.Command.TheVariants.{Replay, Image, Recover, Audit, Bulk, Link}
 use Rattle.run_main.specs.declared.status.Status.{Status}
-use Rattle.run_main.specs.declared.status.Status.TheVariants.{Done, Usage, BadLine, ReadFault, WriteFault, KeeperFault, Memory, TooLarge, BadImage, Conflict}
+use Rattle.run_main.specs.declared.status.Status.TheVariants.{Done, Usage, BadLine, ReadFault, WriteFault, KeeperFault, Memory, TooLarge, BadImage, Conflict, Wrong}
 use Rattle.run_main.specs.declared.task.Task.{Task}
-use Rattle.run_main.specs.declared.task.Task.TheVariants.{Run, Keep, Merge}
+use Rattle.run_main.specs.declared.task.Task.TheVariants.{Run, Keep, Merge, Approve, Tell}
 
 abbrev pub Left : Type 0
 Left = Option (List ℕ)
@@ -39,6 +39,7 @@ wrote command left records (Some before) (Some now) text status (BadLine line) d
 wrote command left records (Some before) (Some now) text status (TooLarge limit line) due says = record { text = text; due = subst (λ (s : Status). IsDue command left records s text) (sym says.0) due; wrote = says.1 }
 wrote command left records (Some before) (Some now) text status (BadImage line) due says = record { text = text; due = subst (λ (s : Status). IsDue command left records s text) (sym says.0) due; wrote = says.1 }
 wrote command left records (Some before) (Some now) text status (Conflict line) due says = record { text = text; due = subst (λ (s : Status). IsDue command left records s text) (sym says.0) due; wrote = says.1 }
+wrote command left records (Some before) (Some now) text status (Wrong line) due says = record { text = text; due = subst (λ (s : Status). IsDue command left records s text) (sym says.0) due; wrote = says.1 }
 
 -- ---- where there is no command
 
@@ -68,6 +69,7 @@ wrote_nothing command left records before now answer silent same = subst (λ (n 
     go (Some b) (TooLarge limit line) h = absurd h
     go (Some b) (BadImage line) h = absurd h
     go (Some b) (Conflict line) h = absurd h
+    go (Some b) (Wrong line) h = absurd h
 
 -- ---- where there is no task
 
@@ -83,6 +85,7 @@ module _ (command : Command) (left : Left) where
       go (TooLarge limit line) h = h
       go (BadImage line) h = h
       go (Conflict line) h = h
+      go (Wrong line) h = h
       go ReadFault h = h
       go Memory h = tt
       go Done h = absurd h
@@ -96,6 +99,7 @@ module _ (command : Command) (left : Left) where
   wrote_early records before now a (TooLarge limit line) answer fault is said silent = wrote (Some command) left records before now (too_large_line limit line) (TooLarge limit line) answer (fault, refl) said
   wrote_early records before now a (BadImage line) answer fault is said silent = wrote (Some command) left records before now (bad_image_line line) (BadImage line) answer (fault, refl) said
   wrote_early records before now a (Conflict line) answer fault is said silent = wrote (Some command) left records before now (conflict_line line) (Conflict line) answer (fault, refl) said
+  wrote_early records before now a (Wrong line) answer fault is said silent = wrote (Some command) left records before now (wrong_line line) (Wrong line) answer (fault, refl) said
   wrote_early records before now a ReadFault answer fault is said silent = go (silent refl).1
     where
       go : (answer ≡ ReadFault) ⊎ (answer ≡ Memory) → WroteDue (Some command) left records before now answer
@@ -139,34 +143,47 @@ module _ (command : Command) (left : Left) (task : Task) (asked : IfSome (input_
   has_task : IfSome (input_of command left) (HasTask command)
   has_task = if_some _ _ (input_of command left) (λ input a. let h : HasTask command input = record { task = task; is = a.is } in h) asked
 
-  sees : (records : Records) → (MakesRun command → Tells records) → SeesTask task records
-  sees records tells = go command task kind tells
-    where
-      go : (c : Command) (t : Task) → IsOfKind c t → (MakesRun c → Tells records) → SeesTask t records
-      go c (Merge items) h k = tt
-      go Replay (Run work account) h k = k tt
-      go Replay (Keep work) h k = k tt
-      go Image (Run work account) h k = k tt
-      go Image (Keep work) h k = k tt
-      go Recover (Run work account) h k = absurd h
-      go Recover (Keep work) h k = absurd h
-      go (Bulk start ops) (Run work account) h k = k tt
-      go (Bulk start ops) (Keep work) h k = k tt
+  -- where the keeper does not tell its records nothing is said of a run's text
+  told : (t : Task) (text : List ℕ) (before records : Records) → is_some records ≡ is_some before → (SeesTask t before → IsTextOf t text records) → IsTextOf t text records
+  told (Merge items) text before records same is = is tt
+  told Approve text before records same is = is tt
+  told (Tell events) text before records same is = is tt
+  told (Run work account) text before None same is = tt
+  told (Run work account) text before (Some all) same is = is (sym same)
+  told (Keep work) text before None same is = tt
+  told (Keep work) text before (Some all) same is = is (sym same)
 
-  pub due_text : (before records : Records) (text : List ℕ) → (MakesRun command → Tells before) → (SeesTask task before → IsTextOf task text records) → IsDue (Some command) left records Done text
-  due_text before records text tells is = if_some _ _ (input_of command left) (λ input a. let h : IsDone command input text records = record { task = task; asked = a.is; done = is (sees before tells) } in h) asked
+  pub due_text : (before records : Records) (text : List ℕ) → is_some records ≡ is_some before → (SeesTask task before → IsTextOf task text records) → IsDue (Some command) left records Done text
+  due_text before records text same is = if_some _ _ (input_of command left) (λ input a. let h : IsDone command input text records = record { task = task; asked = a.is; done = told task text before records same is } in h) asked
+
+  -- what the keeper has is what the task left in it
+  pub kept_by : (before now : Records) → IsStillOrGone task before now → IsKeptBy (Some command) left before now
+  kept_by before now (inl same) = inl same
+  kept_by before None (inr gone) = inr tt
+  kept_by before (Some all) (inr gone) = inr (record {
+    task = task;
+    kind = kind;
+    asked = if_some _ _ (input_of command left) (λ input a. a.is) asked;
+    gone = gone;
+  })
 
   makes_run : (rose : Type 0) → IsTaskFault task rose KeeperFault → MakesRun command × rose
   makes_run rose h = go command task kind h
     where
       go : (c : Command) (t : Task) → IsOfKind c t → IsTaskFault t rose KeeperFault → MakesRun c × rose
       go c (Merge items) k f = absurd (let e : KeeperFault ≡ Memory = f in cc)
+      go c Approve k f = absurd (let e : KeeperFault ≡ Memory = f in cc)
+      go c (Tell events) k f = absurd (let e : KeeperFault ≡ Memory = f in cc)
       go Replay (Run work account) k f = (tt, f)
       go Replay (Keep work) k f = (tt, f)
       go Image (Run work account) k f = (tt, f)
       go Image (Keep work) k f = (tt, f)
       go Recover (Run work account) k f = absurd k
+      go Audit (Run work account) k f = absurd k
       go Recover (Keep work) k f = absurd k
+      go Audit (Keep work) k f = absurd k
+      go Link (Run work account) k f = absurd k
+      go Link (Keep work) k f = absurd k
       go (Bulk start ops) (Run work account) k f = (tt, f)
       go (Bulk start ops) (Keep work) k f = (tt, f)
 
@@ -192,11 +209,14 @@ module _ (command : Command) (left : Left) (task : Task) (asked : IfSome (input_
       runs (TooLarge limit line) f = absurd f
       runs (BadImage line) f = absurd f
       runs (Conflict line) f = absurd f
+      runs (Wrong line) f = absurd f
 
       go : (t : Task) (s : Status) → IsTaskFault t rose s → (s ≡ KeeperFault) ⊎ (s ≡ Memory)
       go (Run work account) s f = runs s f
       go (Keep work) s f = runs s f
       go (Merge items) s f = inr f
+      go Approve s f = inr f
+      go (Tell events) s f = inr f
 
   pub caused_fault : (source_rose sink_rose keeper_rose : Type 0) (status : Status) → IsTaskFault task keeper_rose status → HasCause (Some command) left source_rose sink_rose keeper_rose status
   caused_fault a b k status fault = go (fault_kinds k status fault)
@@ -237,12 +257,18 @@ module _ (command : Command) (left : Left) (task : Task) (asked : IfSome (input_
     where
       go : (c : Command) (t : Task) → IsOfKind c t → ¬ (MakesRun c) → MergesOnly t
       go c (Merge items) h n = tt
+      go c Approve h n = tt
+      go c (Tell events) h n = tt
       go Replay (Run work account) h n = n tt
       go Replay (Keep work) h n = n tt
       go Image (Run work account) h n = n tt
       go Image (Keep work) h n = n tt
       go Recover (Run work account) h n = h
+      go Audit (Run work account) h n = h
       go Recover (Keep work) h n = h
+      go Audit (Keep work) h n = h
+      go Link (Run work account) h n = h
+      go Link (Keep work) h n = h
       go (Bulk start ops) (Run work account) h n = n tt
       go (Bulk start ops) (Keep work) h n = n tt
 
@@ -257,6 +283,7 @@ module _ (command : Command) (left : Left) (task : Task) (asked : IfSome (input_
   early (TooLarge limit line) h e = h
   early (BadImage line) h e = h
   early (Conflict line) h e = h
+  early (Wrong line) h e = h
 
   no_run : (answer : Status) → IsOfRun answer → MadeNoRun (Some command) left answer → MergesOnly task
   no_run answer of_run (inl none) = merges none

@@ -1,6 +1,6 @@
 -- What reading says of the input, where this is to be an image.
-use Rattle.std.proofs.Common.{◌≡◌, ◌⊎◌, inl, inr, ℕ, ◌<◌, ◌≤◌, List, length, Option, Some, None, Result, Ok, Err, refl, sym, ap, ◌∙◌, subst, arith}
-use Rattle.std.specs.Prelude.{IfErr, IfOk, IfSome}
+use Rattle.std.proofs.Common.{◌≡◌, ◌⊎◌, inl, inr, ℕ, ◌<◌, ◌≤◌, List, length, Option, Result, Ok, Err, refl, ap, arith}
+use Rattle.std.specs.Prelude.{IfErr}
 use Rattle.far_base.specs.declared.kept.KeptItem.{KeptItem}
 use Rattle.far_outside.specs.Reading.{HasReadAll}
 use Rattle.kept_image.specs.Faults.{HasImageFault, IsFoundAs}
@@ -8,11 +8,11 @@ use Rattle.kept_image.specs.Meaning.{IsImage, IsReadAs as IsParsedAs}
 use Rattle.kept_image.specs.declared.fault.ImageFault.{ImageFault}
 use Rattle.kept_image.specs.declared.fault.ImageFault.TheVariants.{BadLine as BadImageFault, Conflict as ConflictFault, Memory as NoMemory}
 use Rattle.run_main.proofs.Readings.{told}
-use Rattle.run_main.specs.Inputs.{IsKeptList, IsRefusedImage}
-use Rattle.run_main.specs.Saying.{IsImageParsingFault, IsImageReadingFault, IsReadAs, IsReadImage, IsRefusalOf, SettlesImage}
+use Rattle.run_main.specs.Inputs.{IsRefusedImage}
+use Rattle.run_main.specs.Saying.{IsImageParsingFault, IsImageReadingFault, IsRefusalOf, SettlesImage}
 use Rattle.run_main.specs.Status.{image_status_of}
 use Rattle.run_main.specs.declared.status.Status.{Status}
-use Rattle.run_main.specs.declared.status.Status.TheVariants.{Done, Usage, BadLine, ReadFault, WriteFault, KeeperFault, Memory, TooLarge, BadImage, Conflict}
+use Rattle.run_main.specs.declared.status.Status.TheVariants.{Done, Usage, BadLine, ReadFault, WriteFault, KeeperFault, Memory, TooLarge, BadImage, Conflict, Wrong}
 use Rattle.run_main.specs.declared.top.TheConstants.{INPUT_LIMIT}
 
 -- what parsing answered is what a text of that length is
@@ -32,6 +32,7 @@ settles_ok input items short first = record {
     refused WriteFault h = absurd h
     refused KeeperFault h = absurd h
     refused (BadLine line) h = absurd h
+    refused (Wrong line) h = absurd h
     refused Memory h = absurd h
 
 found_status : (fault wanted : ImageFault) → IsFoundAs {A = List KeptItem} (Err fault) wanted → (image_status_of fault ≡ image_status_of wanted) ⊎ (image_status_of fault ≡ Memory)
@@ -61,6 +62,7 @@ settles_err input fault short only first = record {
     refused WriteFault h = absurd h
     refused KeeperFault h = absurd h
     refused (BadLine line) h = absurd h
+    refused (Wrong line) h = absurd h
     refused Memory h = absurd h
 
 -- ---- the text that was read is the input, where the source tells it
@@ -75,6 +77,7 @@ cause_read left now text rose ReadFault read h = absurd h
 cause_read left now text rose WriteFault read h = absurd h
 cause_read left now text rose KeeperFault read h = absurd h
 cause_read left now text rose (BadLine line) read h = absurd h
+cause_read left now text rose (Wrong line) read h = absurd h
 cause_read left now text rose (TooLarge limit line) read h = absurd h
 
 pub err_told : (left now : Option (List ℕ)) (text : List ℕ) (rose : Type 0) (result : Result (List KeptItem) Status) → HasReadAll left now text → IfErr result (IsImageParsingFault text) → IfErr result (IsImageReadingFault left rose)

@@ -19,10 +19,10 @@ use Rattle.far_model.specs.Clients.{no_line}
 use Rattle.far_model.specs.History.{Agree}
 use Rattle.far_model.specs.Kept.{kept_records, records_in}
 use Rattle.far_model.specs.Members.{Each}
-use Rattle.far_model.specs.Runs.{IsRun, run}
+use Rattle.far_model.specs.Runs.{ArePicked, IsRun, run}
 use Rattle.far_model.specs.State.{State, opening}
 use Rattle.far_runner.specs.Picked.{pick_of}
-use Rattle.far_runner.specs.Pumped.{ArePicked, HasPumpedToRecover}
+use Rattle.far_runner.specs.Pumped.{HasPumpedToRecover}
 use Rattle.far_world.specs.Reached.{IsReached, IsRunOf, Ran, with_count}
 use Rattle.far_world.specs.Scene.{told_by}
 use Rattle.kept_image.specs.ImageText.{image_text}

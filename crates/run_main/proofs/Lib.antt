@@ -1,10 +1,19 @@
 mod Endings
 mod Finishing
 mod ImageReadings
+mod Judging
 mod Keepings
 mod Orders
+mod Piping
 mod Readings
 mod Replays
+mod ReportReadings
 mod Restoring
+mod ScriptReadings
 mod Stopping
 mod Taskings
+mod Telling
+pub mod LineCalls
+mod Placing
+mod PlacingReports
+mod Goings

@@ -1,19 +1,20 @@
 -- What reading says of the input.
-use Rattle.std.proofs.Common.{◌≡◌, ◌⊎◌, inl, inr, ℕ, ◌<◌, ◌≤◌, List, length, Option, Some, None, Result, Ok, Err, refl, sym, ap, ◌∙◌, subst, arith}
+use Rattle.std.proofs.Common.{◌≡◌, ◌⊎◌, inl, inr, ℕ, ◌<◌, ◌≤◌, List, length, Option, Some, None, Result, Ok, Err, refl, ap, subst, arith}
 use Rattle.std.specs.Prelude.{IfErr, IfOk, IfSome}
 use Rattle.far_outside.specs.Reading.{HasReadAll}
 use Rattle.workload.specs.Faults.{HasFault, IsFoundAs}
 use Rattle.workload.specs.Meaning.{IsReading, IsReadAs as IsParsedAs}
 use Rattle.workload.specs.WorkView.{WorkView}
-use Rattle.workload.specs.declared.fault.Limit.{Limit}
 use Rattle.workload.specs.declared.fault.WorkFault.{WorkFault}
 use Rattle.workload.specs.declared.fault.WorkFault.TheVariants.{BadLine as BadLineFault, TooLarge as TooLargeFault, Memory as NoMemory}
-use Rattle.run_main.specs.Inputs.{IsRefusedAs, IsWorkload}
-use Rattle.run_main.specs.Saying.{IsParsingFault, IsRead, IsReadAs, IsReadingFault, IsRefusalOf, SettlesReading}
+use Rattle.run_main.specs.Inputs.{IsRefusedAs, IsWorkload, IsPlaced}
+use Rattle.run_main.specs.Saying.{IsParsingFault, IsRead, IsReadingFault, IsRefusalOf, SettlesReading}
 use Rattle.run_main.specs.Status.{status_of}
 use Rattle.run_main.specs.declared.status.Status.{Status}
-use Rattle.run_main.specs.declared.status.Status.TheVariants.{Done, Usage, BadLine, ReadFault, WriteFault, KeeperFault, Memory, TooLarge, BadImage, Conflict}
+use Rattle.run_main.specs.declared.status.Status.TheVariants.{Done, Usage, BadLine, ReadFault, WriteFault, KeeperFault, Memory, TooLarge, BadImage, Conflict, Wrong}
 use Rattle.run_main.specs.declared.top.TheConstants.{INPUT_LIMIT}
+use Rattle.run_main.proofs.Placing.{work_placed}
+use Rattle.workload.specs.declared.fault.Limit.{Limit}
 
 -- what parsing answered is what a text of that length is
 pub settles_ok : (input : List ℕ) (w : WorkView) → length input ≤ INPUT_LIMIT → ((fault : WorkFault) → HasFault input fault → IsFoundAs {A = WorkView} (Ok w) fault) → SettlesReading input (Ok w)
@@ -33,6 +34,7 @@ settles_ok input w short first = record {
     refused KeeperFault h = absurd h
     refused (BadImage line) h = absurd h
     refused (Conflict line) h = absurd h
+    refused (Wrong line) h = absurd h
     refused Memory h = absurd h
 
 found_status : (fault wanted : WorkFault) → IsFoundAs {A = WorkView} (Err fault) wanted → (status_of fault ≡ status_of wanted) ⊎ (status_of fault ≡ Memory)
@@ -63,6 +65,7 @@ settles_err input fault short only first = record {
     refused KeeperFault h = absurd h
     refused (BadImage line) h = absurd h
     refused (Conflict line) h = absurd h
+    refused (Wrong line) h = absurd h
     refused Memory h = absurd h
 
 -- ---- the text that was read is the input, where the source tells it
@@ -72,9 +75,13 @@ told P None now text read h = tt
 told P (Some input) None text read h = absurd read
 told P (Some input) (Some rest) text read h = subst P read.0 h
 
+placed : (text : List ℕ) (limit : Limit) (line : ℕ) → IsRefusedAs text (TooLarge limit line) → IsPlaced limit line
+placed text limit line (inl h) = inl h.1
+placed text limit line (inr h) = inr (work_placed text limit line h.1)
+
 cause_read : (left now : Option (List ℕ)) (text : List ℕ) (rose : Type 0) (status : Status) → HasReadAll left now text → IsParsingFault text status → IsReadingFault left rose status
 cause_read left now text rose (BadLine line) read h = told (λ input. IsRefusedAs input (BadLine line)) left now text read h
-cause_read left now text rose (TooLarge limit line) read h = told (λ input. IsRefusedAs input (TooLarge limit line)) left now text read h
+cause_read left now text rose (TooLarge limit line) read h = (placed text limit line h, told (λ input. IsRefusedAs input (TooLarge limit line)) left now text read h)
 cause_read left now text rose Memory read h = tt
 cause_read left now text rose Done read h = absurd h
 cause_read left now text rose Usage read h = absurd h
@@ -83,6 +90,7 @@ cause_read left now text rose WriteFault read h = absurd h
 cause_read left now text rose KeeperFault read h = absurd h
 cause_read left now text rose (BadImage line) read h = absurd h
 cause_read left now text rose (Conflict line) read h = absurd h
+cause_read left now text rose (Wrong line) read h = absurd h
 
 pub err_told : (left now : Option (List ℕ)) (text : List ℕ) (rose : Type 0) (result : Result WorkView Status) → HasReadAll left now text → IfErr result (IsParsingFault text) → IfErr result (IsReadingFault left rose)
 err_told left now text rose (Ok work) read h = tt

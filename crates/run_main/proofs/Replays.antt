@@ -1,5 +1,5 @@
 -- What is told of a world that was run to its end by the picks of a workload is what running it gives.
-use Rattle.std.proofs.Common.{◌≡◌, ℕ, List, [], ◌++◌, Some, None, sym, ap, ◌∙◌, subst}
+use Rattle.std.proofs.Common.{◌≡◌, ℕ, true, List, [], ◌++◌, Some, None, sym, ap, ◌∙◌, subst}
 use Rattle.std.specs.Prelude.{IfOk, Option, Result, Ok, Err}
 use Rattle.far_base.specs.PlanView.{PlanView}
 use Rattle.far_base.specs.declared.event.Event.{Event}
@@ -7,17 +7,22 @@ use Rattle.far_base.specs.declared.record.Record.{Record}
 use Rattle.far_invariants.specs.Always.{Always}
 use Rattle.far_invariants.specs.Recoveries.{BlocksAreRestarts}
 use Rattle.far_model.specs.Answered.{AllAnswered}
-use Rattle.far_model.specs.History.{HasOneLegalHistory}
-use Rattle.far_model.specs.Runs.{IsPickedFrom, IsRun, run}
+use Rattle.far_model.specs.Linearizable.{HasOneLinearizableHistory}
+use Rattle.far_model.specs.Runs.{IsPickedFrom, IsRun, is_finished, run}
 use Rattle.far_model.specs.State.{State, opening}
 use Rattle.far_runner.specs.Picked.{pick_of}
 use Rattle.far_runner.specs.Pumped.{HasPumped}
 use Rattle.far_world.specs.Reached.{IsReached, IsRunOf, Ran}
 use Rattle.far_world.specs.Scene.{told_by}
+use Rattle.run_laws.specs.ToldHistory.{HistoryIsTold}
 use Rattle.workload.specs.WorkView.{WorkView}
-use Rattle.run_main.specs.Replay.{IsAccount, IsReplayOf, Tells, log_of}
+use Rattle.run_main.proofs.Judging.{ReportsAreGood, account_good}
+use Rattle.run_main.proofs.Telling.{FinishedAreLinearizable, account_tells, one_legal}
+use Rattle.run_main.specs.Replay.{IsAccount, IsGoodAccount, IsReplayOf, IsTold, Tells, log_of}
+use Rattle.run_main.specs.Tasks.{HasWholeOps}
 use Rattle.run_main.specs.Texts.{IsTextOf}
 use Rattle.run_main.specs.declared.task.Account.{Account}
+use Rattle.run_main.specs.declared.task.Account.TheVariants.{Report}
 use Rattle.run_main.specs.declared.task.Task.TheVariants.{Run}
 
 -- what follows of what was answered
@@ -33,18 +38,22 @@ ok_both P Q (Err e) h k = tt
 pub same_picks : (work : WorkView) (plan : PlanView) (old new : Ran) (count : ℕ) → HasPumped work old new count → HasPumped (record work { plan = plan }) old new count
 same_picks work plan old new count p = record { made = p.made; gone = p.gone; count_is = p.count_is; picked = p.picked }
 
+abbrev pub HistoriesAreTold : Type 0
+HistoriesAreTold = Always (λ plan events s. is_finished plan s ≡ true → HistoryIsTold plan s)
+
 over : (work : WorkView) (account : Account) (plan : PlanView) (events : List Event) (s : State) (text : List ℕ) (all : List (List Record)) → plan ≡ work.plan
-    → IsRun plan (opening plan) events → s ≡ run plan (opening plan) events → IsPickedFrom plan (pick_of work) 0 (opening plan) events → AllAnswered plan s → HasOneLegalHistory s.log → BlocksAreRestarts plan events s
-    → IsAccount account plan (log_of s) text → all ≡ s.servers → IsReplayOf work account text all
+    → IsRun plan (opening plan) events → s ≡ run plan (opening plan) events → IsPickedFrom plan (pick_of work) 0 (opening plan) events → AllAnswered plan s → HasOneLinearizableHistory plan.ops s.log → BlocksAreRestarts plan events s
+    → IsTold account plan (log_of s) text → IsGoodAccount account text → all ≡ s.servers → IsReplayOf work account text all
 over work account plan events s text all same =
-    subst (λ (p : PlanView). IsRun p (opening p) events → s ≡ run p (opening p) events → IsPickedFrom p (pick_of work) 0 (opening p) events → AllAnswered p s → HasOneLegalHistory s.log → BlocksAreRestarts p events s → IsAccount account p (log_of s) text → all ≡ s.servers → IsReplayOf work account text all)
-    (sym same) (λ runs is picked answered history restarts told servers. record {
+    subst (λ (p : PlanView). IsRun p (opening p) events → s ≡ run p (opening p) events → IsPickedFrom p (pick_of work) 0 (opening p) events → AllAnswered p s → HasOneLinearizableHistory p.ops s.log → BlocksAreRestarts p events s → IsTold account p (log_of s) text → IsGoodAccount account text → all ≡ s.servers → IsReplayOf work account text all)
+    (sym same) (λ runs is picked answered history restarts told good servers. record {
       events = events;
       runs = record { enabled = runs; picked = picked };
       answered = subst (λ (z : State). AllAnswered work.plan z) is answered;
-      history = subst (λ (z : State). HasOneLegalHistory z.log) is history;
+      history = subst (λ (z : State). HasOneLinearizableHistory work.plan.ops z.log) is history;
       restarts = subst (λ (z : State). BlocksAreRestarts work.plan events z) is restarts;
-      told = subst (λ (z : State). IsAccount account work.plan (log_of z) text) is told;
+      told = subst (λ (z : State). IsTold account work.plan (log_of z) text) is told;
+      good = good;
       servers = servers ∙ ap (λ (z : State). z.servers) is;
     })
 
@@ -55,15 +64,20 @@ module _ (work : WorkView) (account : Account) (start w : Ran) (count : ℕ) (te
   made_is : w.events ≡ p.made
   made_is = p.gone.events ∙ ap (λ (es : List Event). es ++ p.made) none
 
-  replays : Tells start.keeper.records → (all : List (List Record)) → w.keeper.records ≡ Some all → AllAnswered w.plan w.state → Always (λ plan events s. HasOneLegalHistory s.log) → Always (λ plan events s. BlocksAreRestarts plan events s) → IsAccount account w.plan (log_of w.state) text → IsReplayOf work account text all
-  replays tells all seen answered histories restarts told =
+  replays : Tells start.keeper.records → (all : List (List Record)) → w.keeper.records ≡ Some all → AllAnswered w.plan w.state → FinishedAreLinearizable → Always (λ plan events s. BlocksAreRestarts plan events s) → is_finished w.plan w.state ≡ true → (account ≡ Report → HasWholeOps start.plan) → HistoriesAreTold → ReportsAreGood → IsAccount account w.plan (log_of w.state) text → IsReplayOf work account text all
+  replays tells all seen answered histories restarts done whole tellings goods told =
       over work account w.plan w.events w.state text all here d.enabled d.is picked answered
-      (subst (λ (z : State). HasOneLegalHistory z.log) (sym d.is) (histories w.plan w.events h.valid d.enabled))
+      one
       (subst (λ (z : State). BlocksAreRestarts w.plan w.events z) (sym d.is) (restarts w.plan w.events h.valid d.enabled))
-      told (sym (h.records ∙ ap (told_by w.plan.config.servers) seen))
+      (account_tells account w.plan (log_of w.state) text one told)
+      (account_good w.plan w.state account text goods h.valid (λ is. subst HasWholeOps (sym p.gone.plan) (whole is)) (subst (λ (z : State). is_finished w.plan z ≡ true → HistoryIsTold w.plan z) (sym d.is) (tellings w.plan w.events h.valid d.enabled) done) (one_legal w.plan.ops w.state.log one) told) (sym (h.records ∙ ap (told_by w.plan.config.servers) seen))
     where
       d : IsRunOf w.plan w.events w.state
       d = h.told (p.gone.tells ∙ tells)
+
+      one : HasOneLinearizableHistory w.plan.ops w.state.log
+      one = subst (λ (z : State). is_finished w.plan z ≡ true → HasOneLinearizableHistory w.plan.ops z.log) (sym d.is)
+          (histories w.plan w.events h.valid d.enabled) done
 
       first : IsPickedFrom start.plan (pick_of work) 0 start.state w.events
       first = subst (λ (es : List Event). IsPickedFrom start.plan (pick_of work) 0 start.state es) (sym made_is) (p.picked tells)
@@ -77,7 +91,7 @@ module _ (work : WorkView) (account : Account) (start w : Ran) (count : ℕ) (te
       picked : IsPickedFrom w.plan (pick_of work) 0 (opening w.plan) w.events
       picked = subst (λ (q : PlanView). IsPickedFrom q (pick_of work) 0 (opening q) w.events) (sym here) third
 
-  pub replay_is : Tells start.keeper.records → (records : Option (List (List Record))) → records ≡ w.keeper.records → AllAnswered w.plan w.state → Always (λ plan events s. HasOneLegalHistory s.log) → Always (λ plan events s. BlocksAreRestarts plan events s) → IsAccount account w.plan (log_of w.state) text
+  pub replay_is : Tells start.keeper.records → (records : Option (List (List Record))) → records ≡ w.keeper.records → AllAnswered w.plan w.state → FinishedAreLinearizable → Always (λ plan events s. BlocksAreRestarts plan events s) → is_finished w.plan w.state ≡ true → (account ≡ Report → HasWholeOps start.plan) → HistoriesAreTold → ReportsAreGood → IsAccount account w.plan (log_of w.state) text
       → IsTextOf (Run work account) text records
-  replay_is tells None same answered histories restarts told = tt
-  replay_is tells (Some all) same answered histories restarts told = replays tells all (sym same) answered histories restarts told
+  replay_is tells None same answered histories restarts done whole tellings goods told = tt
+  replay_is tells (Some all) same answered histories restarts done whole tellings goods told = replays tells all (sym same) answered histories restarts done whole tellings goods told

@@ -1,5 +1,5 @@
 -- What a recovery makes of the image of a workload is what the first restart of its run leaves.
-use Rattle.std.proofs.Common.{◌≡◌, ◌≢◌, ℕ, Bool, true, false, true≢false, List, [], ◌∷◌, ◌++◌, map, refl, sym, ap, ◌∙◌, subst}
+use Rattle.std.proofs.Common.{◌≡◌, ◌≢◌, ℕ, Bool, true, true≢false, List, [], ◌∷◌, ◌++◌, map, refl, sym, ap, ◌∙◌, subst}
 use Rattle.std.specs.Prelude.{if◌then◌else◌, Option, Some}
 use Rattle.std.proofs.lemmas.List.{append_assoc}
 use Rattle.far_base.specs.Limits.{IsPlan}
@@ -16,10 +16,9 @@ use Rattle.far_model.specs.Events.{happens}
 use Rattle.far_model.specs.History.{Agree, IsNewestPerKey}
 use Rattle.far_model.specs.Kept.{kept_records, records_in}
 use Rattle.far_model.specs.Members.{Each}
-use Rattle.far_model.specs.Runs.{IsPickedFrom, IsRun, is_quiet, picks_after, run}
+use Rattle.far_model.specs.Runs.{ArePicked, IsPickedFrom, IsRun, is_quiet, picks_after, run}
 use Rattle.far_model.specs.State.{State, opening}
 use Rattle.far_runner.specs.Picked.{pick_of}
-use Rattle.far_runner.specs.Pumped.{ArePicked}
 use Rattle.kept_image.proofs.OneReading.{one_image}
 use Rattle.kept_image.proofs.ReadingLaws.{told_records}
 use Rattle.kept_image.specs.MapText.{map_text}
@@ -27,16 +26,17 @@ use Rattle.kept_image.specs.Meaning.{IsImage, told_item}
 use Rattle.run_laws.specs.RestartBlocks.{BeginsWithRecovery}
 use Rattle.workload.proofs.TextLaws.{one_workload}
 use Rattle.workload.specs.WorkView.{WorkView}
+use Rattle.run_main.proofs.Telling.{is_report}
 use Rattle.run_main.specs.Images.{IsImageOf, IsMapOf, has_stop, with_stop}
 use Rattle.run_main.specs.Inputs.{IsWorkload}
-use Rattle.run_main.specs.Replay.{IsReplayOf, state_after}
+use Rattle.run_main.specs.Replay.{IsReplayOf, log_of, state_after}
 use Rattle.run_main.specs.Restoring.{CommandsRestore, ImageRestores, IsMapOfFirstRestart, IsMapOfReport}
 use Rattle.run_main.specs.Tasks.{IsTask}
 use Rattle.run_main.specs.Texts.{IsTextOf}
 use Rattle.run_main.specs.declared.command.Command.TheVariants.{Image as ImageCommand, Recover as RecoverCommand, Replay as ReplayCommand}
 use Rattle.run_main.specs.declared.task.Account.TheVariants.{Report, Summary}
 use Rattle.run_main.specs.declared.task.Task.{Task}
-use Rattle.run_main.specs.declared.task.Task.TheVariants.{Run, Keep, Merge}
+use Rattle.run_main.specs.declared.task.Task.TheVariants.{Run, Keep, Merge, Approve, Tell}
 
 -- ---- the events that picks choose
 
@@ -99,7 +99,7 @@ module _ (first : FirstRestores) (agrees : KeptAgrees) (one : NewestIsOne) where
         record {
           events = replay.events;
           runs = replay.runs;
-          told = replay.told;
+          told = is_report work.plan.ops (log_of (state_after work replay.events)) report replay.told;
           restart = first_told items text replay.events front.0 reads merged replay.runs.enabled (picked_quiet work.plan (pick_of work) 0 (opening work.plan) replay.events replay.runs.picked) are;
         }
 
@@ -116,18 +116,24 @@ module _ (first : FirstRestores) (agrees : KeptAgrees) (one : NewestIsOne) where
       subst (λ (w : WorkView). IsImageOf w image kept) (ap with_stop same ∙ same_work work has) done
   made_of work input image kept (Run other account) is has asked done = absurd asked
   made_of work input image kept (Merge items) is has asked done = absurd asked
+  made_of work input image kept Approve is has asked done = absurd asked
+  made_of work input image kept (Tell events) is has asked done = absurd asked
 
   replay_of : (work : WorkView) (input report : List ℕ) (all : List (List Record)) (task : Task) → IsWorkload input work → IsTask ReplayCommand input task → IsTextOf task report (Some all) → IsReplayOf work Report report all
   replay_of work input report all (Run other Report) is asked done = subst (λ (w : WorkView). IsReplayOf w Report report all) (one_workload input other work asked.reads is.reads) done
   replay_of work input report all (Run other Summary) is asked done = absurd asked
   replay_of work input report all (Keep other) is asked done = absurd asked
   replay_of work input report all (Merge items) is asked done = absurd asked
+  replay_of work input report all Approve is asked done = absurd asked
+  replay_of work input report all (Tell events) is asked done = absurd asked
 
   merged_of : (work : WorkView) (image text report : List ℕ) (kept all : List (List Record)) (records : Option (List (List Record))) (task : Task) → IsPlan work.plan → IsImageOf work image kept → IsReplayOf work Report report all
       → IsTask RecoverCommand image task → IsTextOf task text records → IsMapOfReport work report text
   merged_of work image text report kept all records (Merge items) valid made replay asked done = image_restores work valid image text report kept all items made asked.reads done replay
+  merged_of work image text report kept all records Approve valid made replay asked done = absurd asked
   merged_of work image text report kept all records (Run other account) valid made replay asked done = absurd asked
   merged_of work image text report kept all records (Keep other) valid made replay asked done = absurd asked
+  merged_of work image text report kept all records (Tell events) valid made replay asked done = absurd asked
 
   pub commands_restore : (work : WorkView) → CommandsRestore work
   commands_restore work input image text report kept all records is has imaged recovered replayed =

@@ -12,10 +12,9 @@ use Rattle.far_base.specs.declared.record.Record.{Record}
 use Rattle.far_model.specs.History.{IsNewestPerKey}
 use Rattle.far_model.specs.Kept.{kept_records, records_in}
 use Rattle.far_model.specs.Members.{Each}
-use Rattle.far_model.specs.Runs.{IsRun}
+use Rattle.far_model.specs.Runs.{ArePicked, IsRun}
 use Rattle.far_model.specs.State.{opening}
 use Rattle.far_runner.specs.Picked.{pick_of}
-use Rattle.far_runner.specs.Pumped.{ArePicked}
 use Rattle.kept_image.specs.ImageText.{image_text}
 use Rattle.kept_image.specs.MapText.{map_text}
 use Rattle.kept_image.specs.Meaning.{IsImage, told_item}

@@ -1,7 +1,11 @@
 pub mod Commands
 pub mod Images
 pub mod Inputs
+pub mod LineCall
 pub mod Lines
+pub mod PipeWorlds
+pub mod Pipes
+pub mod Links
 pub mod Replay
 pub mod Restoring
 pub mod Run
@@ -10,3 +14,4 @@ pub mod Status
 pub mod Tasks
 pub mod Texts
 pub mod Top
+pub mod Gone

@@ -1,20 +1,22 @@
 -- The steps of a top call: the task that is read, and what is said.
-use Rattle.std.specs.Prelude.{◌≡◌, ◌⊎◌, ℕ, ◌<◌, ◌≤◌, List, ◌++◌, length, take, Option, None, Some, Result, Ok, Err}
+use Rattle.std.specs.Prelude.{◌≡◌, ◌⊎◌, ℕ, ◌≤◌, List, ◌++◌, length, take, Option, None, Some, Result, Ok, Err}
 use Rattle.std.specs.Prelude.{IfErr, IfOk, IfSome, OnOk}
 use Rattle.far_base.specs.declared.kept.KeptItem.{KeptItem}
+use Rattle.retry_link.specs.declared.link.LinkEvent.{LinkEvent}
 use Rattle.workload.specs.WorkView.{WorkView}
 use Rattle.server_keeper.specs.declared.step.StepFault.{StepFault}
 use Rattle.server_keeper.specs.declared.step.StepFault.TheVariants.{Memory as OutOfMemory, KeeperFailed}
 use Rattle.run_main.specs.Commands.{Reads, input_of}
-use Rattle.run_main.specs.Inputs.{IsKeptList, IsRefusedAs, IsRefusedImage, IsTooLong, IsWorkload}
+use Rattle.run_main.specs.Inputs.{IsApproved, IsKeptList, IsLinkScript, IsOfAll, IsPlaced, IsPlacedOps, IsRefusedAs, IsRefusedImage, IsRefusedReport, IsRefusedScript, IsTooLong}
+use Rattle.run_main.specs.Inputs.{IsWorkload}
 use Rattle.run_main.specs.Tasks.{IsOfKind, IsReady, IsRefusedIn, IsRefusedFor, IsTask}
 use Rattle.run_main.specs.Top.{ReadFirst, ReadToEnd}
 use Rattle.run_main.specs.declared.command.Command.{Command}
 use Rattle.run_main.specs.declared.status.Status.{Status}
 use Rattle.run_main.specs.declared.status.Status.TheVariants.{Done, Usage, BadLine, ReadFault, WriteFault, KeeperFault}
-use Rattle.run_main.specs.declared.status.Status.TheVariants.{Memory, TooLarge, BadImage, Conflict}
+use Rattle.run_main.specs.declared.status.Status.TheVariants.{Memory, TooLarge, BadImage, Conflict, Wrong}
 use Rattle.run_main.specs.declared.task.Task.{Task}
-use Rattle.run_main.specs.declared.task.Task.TheVariants.{Run, Keep, Merge}
+use Rattle.run_main.specs.declared.task.Task.TheVariants.{Run, Keep, Merge, Approve, Tell}
 use Rattle.run_main.specs.declared.top.TheConstants.{INPUT_LIMIT}
 
 -- ---- what is said
@@ -27,6 +29,7 @@ IsSaid (BadLine line) = Unit {0}
 IsSaid (TooLarge limit line) = Unit {0}
 IsSaid (BadImage line) = Unit {0}
 IsSaid (Conflict line) = Unit {0}
+IsSaid (Wrong line) = Unit {0}
 IsSaid _ = ⊥
 
 -- the text was written, a prefix of it, or nothing
@@ -44,6 +47,7 @@ IsEarly (BadLine line) = Unit {0}
 IsEarly (TooLarge limit line) = Unit {0}
 IsEarly (BadImage line) = Unit {0}
 IsEarly (Conflict line) = Unit {0}
+IsEarly (Wrong line) = Unit {0}
 IsEarly ReadFault = Unit {0}
 IsEarly Memory = Unit {0}
 IsEarly _ = ⊥
@@ -69,7 +73,7 @@ Says (Some before) (Some now) text status answer = SaysTold before now text stat
 
 -- why there is no text
 abbrev pub IsTextFault : Option (List ℕ) → Type 0 → Status → Type 0
-IsTextFault left rose (TooLarge limit line) = IfSome left (λ input. IsTooLong input limit line)
+IsTextFault left rose (TooLarge limit line) = IsOfAll limit line × IfSome left (λ input. IsTooLong input limit line)
 IsTextFault left rose ReadFault = rose
 IsTextFault left rose Memory = Unit {0}
 IsTextFault left rose _ = ⊥
@@ -77,7 +81,8 @@ IsTextFault left rose _ = ⊥
 -- why there is no workload
 abbrev pub IsReadingFault : Option (List ℕ) → Type 0 → Status → Type 0
 IsReadingFault left rose (BadLine line) = IfSome left (λ input. IsRefusedAs input (BadLine line))
-IsReadingFault left rose (TooLarge limit line) = IfSome left (λ input. IsRefusedAs input (TooLarge limit line))
+IsReadingFault left rose (TooLarge limit line) =
+    IsPlaced limit line × IfSome left (λ input. IsRefusedAs input (TooLarge limit line))
 IsReadingFault left rose ReadFault = rose
 IsReadingFault left rose Memory = Unit {0}
 IsReadingFault left rose _ = ⊥
@@ -121,7 +126,8 @@ pub record IsRead (input : List ℕ) (work : WorkView) : Type 0 where
 abbrev pub IsImageReadingFault : Option (List ℕ) → Type 0 → Status → Type 0
 IsImageReadingFault left rose (BadImage line) = IfSome left (λ input. IsRefusedImage input (BadImage line))
 IsImageReadingFault left rose (Conflict line) = IfSome left (λ input. IsRefusedImage input (Conflict line))
-IsImageReadingFault left rose (TooLarge limit line) = IfSome left (λ input. IsRefusedImage input (TooLarge limit line))
+IsImageReadingFault left rose (TooLarge limit line) =
+    IsOfAll limit line × IfSome left (λ input. IsRefusedImage input (TooLarge limit line))
 IsImageReadingFault left rose ReadFault = rose
 IsImageReadingFault left rose Memory = Unit {0}
 IsImageReadingFault left rose _ = ⊥
@@ -142,6 +148,62 @@ pub record IsReadImage (input : List ℕ) (items : List KeptItem) : Type 0 where
   pub is : IsKeptList input items
   pub settles : SettlesImage input (Ok items)
 
+-- ---- the same of reports
+
+-- why a report is not approved
+abbrev pub IsReportFault : Option (List ℕ) → Type 0 → Status → Type 0
+IsReportFault left rose (BadLine line) = IfSome left (λ input. IsRefusedReport input (BadLine line))
+IsReportFault left rose (TooLarge limit line) =
+    IsPlacedOps limit line × IfSome left (λ input. IsRefusedReport input (TooLarge limit line))
+IsReportFault left rose (Wrong line) = IfSome left (λ input. IsRefusedReport input (Wrong line))
+IsReportFault left rose ReadFault = rose
+IsReportFault left rose Memory = Unit {0}
+IsReportFault left rose _ = ⊥
+
+abbrev pub IsJudgingFault : List ℕ → Status → Type 0
+IsJudgingFault input (BadLine line) = IsRefusedReport input (BadLine line)
+IsJudgingFault input (TooLarge limit line) = IsRefusedReport input (TooLarge limit line)
+IsJudgingFault input (Wrong line) = IsRefusedReport input (Wrong line)
+IsJudgingFault input Memory = Unit {0}
+IsJudgingFault input _ = ⊥
+
+-- what is answered where no read failed
+pub record SettlesReport {T : Type 0} (input : List ℕ) (result : Result T Status) : Type 0 where
+  pub approved : IsApproved input → IsReadAs result
+  pub refused : (refusal : Status) → IsRefusedReport input refusal → IsRefusalOf refusal result
+
+-- the input is a report that is approved, and is not refused
+pub record IsApprovedOnly (input : List ℕ) : Type 0 where
+  pub is : IsApproved input
+  pub unrefused : (refusal : Status) → ¬ (IsRefusedReport input refusal)
+
+-- ---- the same of the events of a link
+
+-- why there are no events
+abbrev pub IsScriptReadingFault : Option (List ℕ) → Type 0 → Status → Type 0
+IsScriptReadingFault left rose (BadLine line) = IfSome left (λ input. IsRefusedScript input (BadLine line))
+IsScriptReadingFault left rose (TooLarge limit line) =
+    IsPlacedOps limit line × IfSome left (λ input. IsRefusedScript input (TooLarge limit line))
+IsScriptReadingFault left rose ReadFault = rose
+IsScriptReadingFault left rose Memory = Unit {0}
+IsScriptReadingFault left rose _ = ⊥
+
+abbrev pub IsScriptParsingFault : List ℕ → Status → Type 0
+IsScriptParsingFault input (BadLine line) = IsRefusedScript input (BadLine line)
+IsScriptParsingFault input (TooLarge limit line) = IsRefusedScript input (TooLarge limit line)
+IsScriptParsingFault input Memory = Unit {0}
+IsScriptParsingFault input _ = ⊥
+
+-- what is answered where no read failed
+pub record SettlesScript (input : List ℕ) (result : Result (List LinkEvent) Status) : Type 0 where
+  pub script : (events : List LinkEvent) → IsLinkScript input events → IsReadAs result
+  pub refused : (refusal : Status) → IsRefusedScript input refusal → IsRefusalOf refusal result
+
+-- the input tells these events, and no others
+pub record IsReadScript (input : List ℕ) (events : List LinkEvent) : Type 0 where
+  pub is : IsLinkScript input events
+  pub settles : SettlesScript input (Ok events)
+
 -- ---- what a command and its input ask for
 
 -- why a command has no task
@@ -150,6 +212,7 @@ IsEarlyFault command left rose (BadLine line) = IsRefusedIn command left (BadLin
 IsEarlyFault command left rose (TooLarge limit line) = IsRefusedIn command left (TooLarge limit line)
 IsEarlyFault command left rose (BadImage line) = IsRefusedIn command left (BadImage line)
 IsEarlyFault command left rose (Conflict line) = IsRefusedIn command left (Conflict line)
+IsEarlyFault command left rose (Wrong line) = IsRefusedIn command left (Wrong line)
 IsEarlyFault command left rose ReadFault = Reads command × rose
 IsEarlyFault command left rose Memory = Unit {0}
 IsEarlyFault command left rose _ = ⊥
@@ -193,3 +256,5 @@ abbrev pub IsTaskFault : Task → Type 0 → Status → Type 0
 IsTaskFault (Run work account) rose status = IsRunFault rose status
 IsTaskFault (Keep work) rose status = IsRunFault rose status
 IsTaskFault (Merge items) rose status = status ≡ Memory
+IsTaskFault Approve rose status = status ≡ Memory
+IsTaskFault (Tell events) rose status = status ≡ Memory

@@ -1,15 +1,14 @@
 -- What a top call does: its answers and their causes, what it reads and writes, and when it makes no run.
-use Rattle.std.specs.Prelude.{◌≡◌, ◌⊎◌, ℕ, ◌<◌, List, [], ◌∷◌, ◌++◌, take, Option, None, Some, IfSome}
+use Rattle.std.specs.Prelude.{◌≡◌, ◌⊎◌, ℕ, ◌<◌, List, [], ◌++◌, take, Option, None, Some, IfSome}
 use Rattle.far_base.specs.declared.record.Record.{Record}
 use Rattle.run_main.specs.Commands.{MakesRun, Reads, input_of}
-use Rattle.run_main.specs.Lines.{bad_image_line, bad_line, conflict_line, too_large_line, usage_line}
-use Rattle.run_main.specs.Replay.{Tells}
+use Rattle.run_main.specs.Lines.{bad_image_line, bad_line, conflict_line, too_large_line, usage_line, wrong_line}
 use Rattle.run_main.specs.Tasks.{HasTask, IsRefusedFor, IsRefusedIn, IsTask}
 use Rattle.run_main.specs.Texts.{IsTextOf}
 use Rattle.run_main.specs.declared.command.Command.{Command}
 use Rattle.run_main.specs.declared.status.Status.{Status}
 use Rattle.run_main.specs.declared.status.Status.TheVariants.{Done, Usage, BadLine, ReadFault, WriteFault, KeeperFault}
-use Rattle.run_main.specs.declared.status.Status.TheVariants.{Memory, TooLarge, BadImage, Conflict}
+use Rattle.run_main.specs.declared.status.Status.TheVariants.{Memory, TooLarge, BadImage, Conflict, Wrong}
 use Rattle.run_main.specs.declared.task.Task.{Task}
 
 -- ---- the answers
@@ -28,6 +27,7 @@ HasCauseFor command left source_rose sink_rose keeper_rose (TooLarge limit line)
     IsRefusedIn command left (TooLarge limit line)
 HasCauseFor command left source_rose sink_rose keeper_rose (BadImage line) = IsRefusedIn command left (BadImage line)
 HasCauseFor command left source_rose sink_rose keeper_rose (Conflict line) = IsRefusedIn command left (Conflict line)
+HasCauseFor command left source_rose sink_rose keeper_rose (Wrong line) = IsRefusedIn command left (Wrong line)
 
 -- the cause of each answer to arguments that name no command
 abbrev pub HasCauseForNone : Type 0 → Status → Type 0
@@ -76,6 +76,7 @@ ReadFirst left now KeeperFault = ReadToEnd left now
 ReadFirst left now (TooLarge limit line) = 0 < line → ReadToEnd left now
 ReadFirst left now (BadImage line) = ReadToEnd left now
 ReadFirst left now (Conflict line) = ReadToEnd left now
+ReadFirst left now (Wrong line) = ReadToEnd left now
 ReadFirst left now _ = Unit {0}
 
 -- the same of a command that reads
@@ -108,6 +109,8 @@ IsDue (Some command) left records (BadImage line) text =
     IsRefusedIn command left (BadImage line) × (text ≡ bad_image_line line)
 IsDue (Some command) left records (Conflict line) text =
     IsRefusedIn command left (Conflict line) × (text ≡ conflict_line line)
+IsDue (Some command) left records (Wrong line) text =
+    IsRefusedIn command left (Wrong line) × (text ≡ wrong_line line)
 IsDue None left records Usage text = text ≡ usage_line
 IsDue _ left records _ text = ⊥
 
@@ -141,11 +144,6 @@ WroteDue command left records None now status = Unit {0}
 WroteDue command left records (Some before) None status = ⊥
 WroteDue command left records (Some before) (Some now) status = Wrote command left records before now status
 
--- the proof sees the keeper's records, where a run is made over them
-abbrev pub SeesRun : Option Command → Option (List (List Record)) → Type 0
-SeesRun None records = Unit {0}
-SeesRun (Some command) records = MakesRun command → Tells records
-
 -- ---- where no run is made
 
 -- an answer that comes before any run
@@ -155,6 +153,7 @@ ComesBeforeRun (BadLine line) = Unit {0}
 ComesBeforeRun (TooLarge limit line) = Unit {0}
 ComesBeforeRun (BadImage line) = Unit {0}
 ComesBeforeRun (Conflict line) = Unit {0}
+ComesBeforeRun (Wrong line) = Unit {0}
 ComesBeforeRun ReadFault = Unit {0}
 ComesBeforeRun _ = ⊥
 

@@ -12,6 +12,10 @@ pub enum Command {
     Image,
     /// Reads an image, and writes the map that a recovery makes of it.
     Recover,
+    /// Reads a report, and tells whether the lines of its history are good.
+    Audit,
+    /// Reads the events of a link that loses and copies frames, makes them happen, and writes what they tell.
+    Link,
     /// Runs the generated workload of so many operations to its end, and writes its summary.
     Bulk { start: u64, ops: u64 },
 }
@@ -25,6 +29,8 @@ fn command_named(word: &str) -> Option<Command>
         "replay" => Some(Command::Replay),
         "image" => Some(Command::Image),
         "recover" => Some(Command::Recover),
+        "audit" => Some(Command::Audit),
+        "link" => Some(Command::Link),
         _ => None,
     }
 }

@@ -7,6 +7,7 @@ ghost use Rattle.far_world.specs.Reached.{with_count};
 ghost use Rattle.kept_image.specs.ImageText.{image_text};
 ghost use Rattle.kept_image.specs.Meaning.{AreTold, IsImage, told_item};
 ghost use Rattle.workload.specs.Plain.{IsPlain};
+ghost use Rattle.run_main.specs.Gone.{HasGoneBy, IsStillOrGone};
 ghost use Rattle.run_main.specs.Images.{IsImageOf, has_stop, with_stop};
 ghost use Rattle.run_main.specs.Replay.{Tells};
 ghost use Rattle.run_main.specs.Saying.{IsRunFault};
@@ -89,6 +90,8 @@ fn run_to_recovery<K: Keeper + Drop>(
     ensures fault { IfErr result.text (IsRunFault (Rose world.keeper.faults (K.fault_count result.keeper))) }
     ensures later { world.keeper.faults ≤ K.fault_count result.keeper }
     ensures tells { is_some (K.records result.keeper) ≡ is_some world.keeper.records }
+    ensures gone { Tells world.keeper.records → IfSome (K.records result.keeper) (HasGoneBy
+        (record load.now { plan = world.plan })) }
 {
     run_laws::kept_lists_are_written();
     let mut world = world;
@@ -106,7 +109,9 @@ pub(crate) fn keep<K: Keeper + Drop>(alloc: Global, load: Workload, keeper: K) -
         (K.records result.keeper)) }
     ensures fault { IfErr result.text (IsRunFault (Rose (K.fault_count keeper) (K.fault_count result.keeper))) }
     ensures later { K.fault_count keeper ≤ K.fault_count result.keeper }
-    ensures tells { Tells (K.records keeper) → Tells (K.records result.keeper) }
+    ensures tells { is_some (K.records result.keeper) ≡ is_some (K.records keeper) }
+    ensures gone { Tells (K.records keeper) → IsStillOrGone (Task.Keep load) (K.records keeper)
+        (K.records result.keeper) }
 {
     let stopping = match with_stop(load) {
         Ok(stopping) => stopping,

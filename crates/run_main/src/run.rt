@@ -1,13 +1,13 @@
 ghost use Rattle.std.specs.Prelude.{◌≡◌, ◌↔◌, ◌⊎◌, ◌≤◌, [], IsTrue, IfOk, IfSome, codes, map, string_bytes};
 ghost use Rattle.far_base.specs.Limits.{IsPlan};
 ghost use Rattle.far_outside.specs.Faults.{Rose};
-ghost use Rattle.run_main.specs.Run.{HandsBack, HasRunCause, IsRunReport, IsRunSettled, IsRunWord, IsUsageAnswer};
-ghost use Rattle.run_main.specs.Run.{RunWroteDue};
+ghost use Rattle.run_main.specs.Run.{HandsBack, HasRunCause, IsReportOfInput, IsRunOfInput, IsRunReport, IsRunSettled};
+ghost use Rattle.run_main.specs.Run.{IsRunWord, IsUsageAnswer, RunWroteDue};
 ghost use Rattle.run_main.specs.Saying.{IsAnswer, IsRead, Says};
 ghost use Rattle.run_main.specs.Top.{ReadFirst};
 
 use crate::reading::read_workload;
-use crate::saying::{refuse, say};
+use crate::saying::{refuse, say_of};
 use crate::starting::Cache;
 use crate::status::Status;
 use far_base::{Event, Memory};
@@ -67,9 +67,9 @@ fn run_to_end<G: Gate + Sync, R: Threads + Wait + Sync>(
     gate: &G,
 ) -> Result<Finished, Memory>
     requires { IsPlan load.now.plan }
-    ensures { IfOk result (λ finished. IsRunReport load.now finished.events.items finished.report.items) }
+    ensures { IfOk result (λ finished. IsRunReport load.now.plan finished.events.items finished.report.items) }
 {
-    run_laws::runs_have_one_history();
+    run_laws::finished_runs_are_linearizable();
     run_laws::restarts_restore();
     let switch = Cache::new(alloc, load.plan.config, 1, 0)?;
     let world = run_threads(rt, alloc, load, switch, gate)?;
@@ -89,11 +89,8 @@ fn reported<D: Sink>(alloc: Global, sink: &mut D, finished: Finished) -> RunEnde
         × ((result.status ≡ Status.Memory → ⊥) → result.events.items ≡ finished.events.items) }
 {
     let Finished { events, report } = finished;
-    let status = say(sink, &report, Status::Done);
-    match status {
-        Status::Memory => without_events(alloc, status),
-        _ => RunEnded { status, events },
-    }
+    let (status, events) = say_of(alloc, sink, &report, events);
+    RunEnded { status, events }
 }
 
 /// Does what the arguments say, with a thread for each party: `run` reads a workload to its end, runs it in any order
@@ -113,20 +110,21 @@ pub fn top_run<S: Source, D: Sink, G: Gate + Sync, R: Threads + Wait + Sync>(
     gate: &G,
 ) -> RunEnded
     // Each answer has its cause, and the first cause decides.
-    ensures causes { HasRunCause (map string_bytes words.now) (S.left source.old) (Rose (S.fault_count source.old)
+    ensures causes { HasRunCause (IsRunWord (map string_bytes words.now)) (S.left source.old) (Rose (S.fault_count source.old)
         (S.fault_count source.new)) (Rose (D.fault_count sink.old) (D.fault_count sink.new)) result.status }
     // Where no count rose the answer is the one that is due, unless memory was refused.
-    ensures settled { IsRunSettled (map string_bytes words.now) (S.left source.old) (¬ Rose (S.fault_count source.old)
+    ensures settled { IsRunSettled (IsRunWord (map string_bytes words.now)) (S.left source.old) (¬ Rose (S.fault_count source.old)
         (S.fault_count source.new)) (¬ Rose (D.fault_count sink.old) (D.fault_count sink.new)) result.status }
     // What is written is what was due, and a report comes only after all was read.
-    ensures written { RunWroteDue (map string_bytes words.now) (S.left source.old) result.events.items
-        (D.written sink.old) (D.written sink.new) result.status }
+    ensures written { RunWroteDue (IsRunWord (map string_bytes words.now)) (S.left source.old)
+        (IsReportOfInput result.events.items) (D.written sink.old) (D.written sink.new) result.status }
     ensures first { ReadFirst (S.left source.old) (S.left source.new) result.status }
     // Other words do nothing but write the usage line.
     ensures other_words { ¬ (IsRunWord (map string_bytes words.now)) → (S.left source.new ≡ S.left source.old)
         × IsUsageAnswer result.status }
-    // The events are those of the run, or there are none.
-    ensures events { HandsBack (map string_bytes words.now) (S.left source.old) result.status result.events.items }
+    // The events are those of the run, before which all was read, or there are none.
+    ensures events { HandsBack (IsRunWord (map string_bytes words.now)) (S.left source.old) (S.left source.new)
+        (IsRunOfInput result.events.items) (result.events.items ≡ []) result.status }
 {
     if !is_run(words) {
         return without_events(alloc, refuse(alloc, sink, Status::Usage));

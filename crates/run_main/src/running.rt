@@ -1,4 +1,4 @@
-ghost use Rattle.std.specs.Prelude.{◌≡◌, ◌≤◌, [], true, is_some, length, IfOk, IfErr};
+ghost use Rattle.std.specs.Prelude.{◌≡◌, ◌≤◌, [], true, is_some, length, IfOk, IfErr, IfSome};
 ghost use Rattle.far_base.specs.Limits.{IsPlan};
 ghost use Rattle.far_history.specs.RoomyLog.{log_view};
 ghost use Rattle.far_model.specs.Answered.{AllAnswered};
@@ -7,8 +7,10 @@ ghost use Rattle.far_model.specs.State.{opening};
 ghost use Rattle.far_outside.specs.Faults.{Rose};
 ghost use Rattle.far_world.specs.Reached.{IsReached};
 ghost use Rattle.workload.specs.Plain.{IsPlain};
+ghost use Rattle.run_main.specs.Gone.{HasGoneIn, IsStillOrGone};
 ghost use Rattle.run_main.specs.Replay.{IsAccount, Tells, log_of};
 ghost use Rattle.run_main.specs.Saying.{IsRunFault};
+ghost use Rattle.run_main.specs.Tasks.{HasWholeOps, IsReadyRun};
 ghost use Rattle.run_main.specs.Texts.{IsTextOf};
 
 use crate::starting::{Cache, Made, Unstarted, handed_back, parted, started, status_of_fault};
@@ -84,14 +86,19 @@ fn run_to_end<K: Keeper + Drop>(
 ) -> Made<K>
     requires events { world.events ≡ [] }
     requires state { Tells world.keeper.records → world.state ≡ opening world.plan }
+    requires whole { account ≡ Account.Report → HasWholeOps world.plan }
     ensures text { Tells world.keeper.records → IfOk result.text (λ text. IsTextOf (Task.Run
         (record load.now { plan = world.plan }) account) text.items (K.records result.keeper)) }
     ensures fault { IfErr result.text (IsRunFault (Rose world.keeper.faults (K.fault_count result.keeper))) }
     ensures later { world.keeper.faults ≤ K.fault_count result.keeper }
     ensures tells { is_some (K.records result.keeper) ≡ is_some world.keeper.records }
+    ensures gone { Tells world.keeper.records → IfSome (K.records result.keeper) (HasGoneIn (Task.Run
+        (record load.now { plan = world.plan }) account)) }
 {
-    run_laws::runs_have_one_history();
+    run_laws::finished_runs_are_linearizable();
     run_laws::restarts_restore();
+    run_laws::histories_are_told();
+    log_audit::reports_are_good();
     let mut world = world;
     if let Err(fault) = pump(&mut world, load) {
         return handed_back(world, Err(status_of_fault(fault)));
@@ -107,12 +114,14 @@ pub(crate) fn replay<K: Keeper + Drop>(
     account: Account,
     keeper: K,
 ) -> Made<K>
-    requires { IsPlain load }
+    requires { IsReadyRun load account }
     ensures text { Tells (K.records keeper) → IfOk result.text (λ text. IsTextOf (Task.Run load account) text.items
         (K.records result.keeper)) }
     ensures fault { IfErr result.text (IsRunFault (Rose (K.fault_count keeper) (K.fault_count result.keeper))) }
     ensures later { K.fault_count keeper ≤ K.fault_count result.keeper }
-    ensures tells { Tells (K.records keeper) → Tells (K.records result.keeper) }
+    ensures tells { is_some (K.records result.keeper) ≡ is_some (K.records keeper) }
+    ensures gone { Tells (K.records keeper) → IsStillOrGone (Task.Run load account) (K.records keeper)
+        (K.records result.keeper) }
 {
     let (plan, picks) = parted(alloc, load);
     match started(alloc, plan, keeper) {

@@ -5,9 +5,10 @@ use far_text::{Word, put_line};
 use std::alloc::Global;
 use workload::Limit;
 
-const USAGE: &[u8] = b"usage: far replay, run, image, recover, or bulk START OPS\n";
+const USAGE: &[u8] =
+    b"usage: far replay, run, image, recover, line, pipes P, audit, link, or bulk START OPS\n";
 
-ghost use Rattle.std.specs.Prelude.{◌≡◌, ◌⊎◌, ◌≤◌, IfOk, IfSome, None, Some};
+ghost use Rattle.std.specs.Prelude.{◌≡◌, ◌⊎◌, ◌≤◌, [], IfOk, IfSome, None, Some};
 ghost use Rattle.far_outside.specs.Faults.{Rose};
 ghost use Rattle.run_main.specs.Lines as lines;
 ghost use Rattle.run_main.specs.Saying.{IsAnswer, IsEarly, IsSaid, Says};
@@ -25,6 +26,28 @@ pub(crate) fn say<D: Sink>(sink: &mut D, text: &[u8], status: Status) -> Status
         Ok(()) => status,
         Err(SinkFault::Memory) => Status::Memory,
         Err(SinkFault::Failed) => Status::WriteFault,
+    }
+}
+
+/// Writes the text of what was made, in one call. Where no memory was left for this, what was made is let go.
+pub(crate) fn say_of<D: Sink, E: Drop>(
+    alloc: Global,
+    sink: &mut D,
+    text: &[u8],
+    made: Vec<E>,
+) -> (Status, Vec<E>)
+    ensures said { Says (D.written sink.old) (D.written sink.new) text.now Status.Done result.0 }
+    ensures answer { IsAnswer Status.Done result.0 }
+    ensures cause { result.0 ≡ Status.WriteFault → Rose (D.fault_count sink.old) (D.fault_count sink.new) }
+    ensures calm { ¬ Rose (D.fault_count sink.old) (D.fault_count sink.new) → (result.0 ≡ Status.Done) ⊎ (result.0
+        ≡ Status.Memory) }
+    ensures made { (result.0 ≡ Status.Memory → result.1.items ≡ [])
+        × ((result.0 ≡ Status.Memory → ⊥) → result.1.items ≡ made.items) }
+{
+    let status = say(sink, text, Status::Done);
+    match status {
+        Status::Memory => (status, Vec::new(alloc)),
+        _ => (status, made),
     }
 }
 
@@ -78,6 +101,13 @@ fn refusal_line(alloc: Global, status: Status) -> Result<Option<Vec<u8>>, Memory
             &mut line,
             &[
                 Word::Text(b"conflict line"),
+                Word::Number(u64::from(number)),
+            ],
+        )?,
+        Status::Wrong(number) => put_line(
+            &mut line,
+            &[
+                Word::Text(b"audit no line"),
                 Word::Number(u64::from(number)),
             ],
         )?,

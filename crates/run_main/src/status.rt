@@ -2,6 +2,7 @@ ghost use Rattle.std.specs.Prelude.{◌≡◌};
 ghost use Rattle.run_main.specs.Status.{exit_number};
 
 use kept_image::ImageFault;
+use log_audit::AuditFault;
 use workload::{Limit, WorkFault};
 
 /// How a top call ended. Lines are counted from 1.
@@ -11,7 +12,8 @@ pub enum Status {
     Done,
     /// The arguments name no command.
     Usage,
-    /// The first faulty line of the workload has none of the forms that may stand there.
+    /// The first faulty line of the workload, of the report or of the events of a link has none of the forms that may
+    /// stand there.
     BadLine(u32),
     /// A read of the source failed.
     ReadFault,
@@ -21,13 +23,15 @@ pub enum Status {
     KeeperFault,
     /// Memory was refused.
     Memory,
-    /// The first faulty line of the workload passes this limit; line 0 stands for the whole input, or for the
-    /// arguments.
+    /// The first faulty line of the workload, of the report or of the events passes this limit; line 0 stands for the
+    /// whole input, or for the arguments.
     TooLarge(Limit, u32),
     /// The first faulty line of the image has none of the forms that may stand there.
     BadImage(u32),
     /// The first faulty line of the image gives a version of a key another body than an earlier line does.
     Conflict(u32),
+    /// The lines of the report's history up to this line of the input are not good.
+    Wrong(u32),
 }
 
 impl Status {
@@ -45,6 +49,7 @@ impl Status {
             Status::Memory => 7,
             Status::TooLarge(_, _) => 8,
             Status::BadImage(_) | Status::Conflict(_) => 9,
+            Status::Wrong(_) => 11,
         }
     }
 }
@@ -73,6 +78,20 @@ impl From<ImageFault> for Status {
             ImageFault::BadLine(line) => Status::BadImage(line),
             ImageFault::Conflict(line) => Status::Conflict(line),
             ImageFault::Memory => Status::Memory,
+        }
+    }
+}
+
+impl From<AuditFault> for Status {
+    ghost use Rattle.run_main.specs.Status.{audit_status_of};
+
+    ghost from_gives = { λ fault status. status ≡ audit_status_of fault };
+
+    fn from(fault: AuditFault) -> Self {
+        match fault {
+            AuditFault::BadLine(line) => Status::BadLine(line),
+            AuditFault::TooLarge(line) => Status::TooLarge(Limit::Ops, line),
+            AuditFault::Memory => Status::Memory,
         }
     }
 }

@@ -7,11 +7,12 @@ ghost use Rattle.run_main.specs.Commands.{HasNumbers, Reads};
 ghost use Rattle.run_main.specs.Saying.{HasRead};
 
 use crate::command::Command;
-use crate::reading::{read_image, read_workload};
+use crate::reading::{judge_report, read_image, read_script, read_workload};
 use crate::status::Status;
 use far_base::OP_LIMIT;
 use far_outside::Source;
 use kept_image::Image;
+use link_text::Script;
 use std::alloc::Global;
 use workload::{Limit, Workload, generate};
 
@@ -31,6 +32,10 @@ pub(crate) enum Task {
     Keep(Workload),
     /// The map that a recovery makes of the kept list.
     Merge(Image),
+    /// To say that a report's lines are good.
+    Approve,
+    /// What the events of a link tell.
+    Tell(Script),
 }
 
 fn replay_task<S: Source>(alloc: Global, source: &mut S) -> Result<Task, Status>
@@ -59,6 +64,26 @@ fn recover_task<S: Source>(alloc: Global, source: &mut S) -> Result<Task, Status
 {
     match read_image(alloc, source) {
         Ok(image) => Ok(Task::Merge(image)),
+        Err(status) => Err(status),
+    }
+}
+
+fn audit_task<S: Source>(alloc: Global, source: &mut S) -> Result<Task, Status>
+    ensures { HasRead Command.Audit (S.left source.old) (S.left source.new) (Rose (S.fault_count source.old)
+        (S.fault_count source.new)) result }
+{
+    match judge_report(alloc, source) {
+        Ok(()) => Ok(Task::Approve),
+        Err(status) => Err(status),
+    }
+}
+
+fn link_task<S: Source>(alloc: Global, source: &mut S) -> Result<Task, Status>
+    ensures { HasRead Command.Link (S.left source.old) (S.left source.new) (Rose (S.fault_count source.old)
+        (S.fault_count source.new)) result }
+{
+    match read_script(alloc, source) {
+        Ok(script) => Ok(Task::Tell(script)),
         Err(status) => Err(status),
     }
 }
@@ -95,6 +120,8 @@ pub(crate) fn task_of<S: Source>(
         Command::Replay => replay_task(alloc, source),
         Command::Image => image_task(alloc, source),
         Command::Recover => recover_task(alloc, source),
+        Command::Audit => audit_task(alloc, source),
+        Command::Link => link_task(alloc, source),
         Command::Bulk { start, ops } => bulk_task(alloc, start, ops),
     }
 }

@@ -14,8 +14,9 @@ pub const INPUT_LIMIT: u32 = 16_777_216;
 ghost use Rattle.std.specs.Prelude.{◌≡◌, ◌≢◌, ◌≤◌, Some, map, string_bytes};
 ghost use Rattle.far_outside.specs.Faults.{Rose};
 ghost use Rattle.run_main.specs.Commands.{HasNumbers, Reads, command_of};
-ghost use Rattle.run_main.specs.Replay.{Tells};
-ghost use Rattle.run_main.specs.Top.{HasCause, IsDecided, IsSettled, MadeNoRun, ReadFirstFor, ReadsNothing, SeesRun};
+ghost use Rattle.run_main.specs.Gone.{IsKeptBy};
+ghost use Rattle.run_main.specs.Replay.{Tells, TellsLinearizableReport, WroteLinearizableReport};
+ghost use Rattle.run_main.specs.Top.{HasCause, IsDecided, IsSettled, MadeNoRun, ReadFirstFor, ReadsNothing};
 ghost use Rattle.run_main.specs.Top.{WroteDue};
 
 /// How a top call ended, and the keeper.
@@ -39,12 +40,14 @@ fn obey<S: Source, D: Sink, K: Keeper + Drop>(
     ensures settled { IsSettled (Some command) (S.left source.old) (¬ Rose (S.fault_count source.old)
         (S.fault_count source.new)) (¬ Rose (D.fault_count sink.old) (D.fault_count sink.new)) (¬ Rose
         (K.fault_count keeper) (K.fault_count result.keeper)) result.status }
-    ensures written { SeesRun (Some command) (K.records keeper) → WroteDue (Some command) (S.left source.old)
+    ensures written { WroteDue (Some command) (S.left source.old)
         (K.records result.keeper) (D.written sink.old) (D.written sink.new) result.status }
     ensures first { ReadFirstFor (Some command) (S.left source.old) (S.left source.new) result.status }
     ensures untouched { ReadsNothing (Some command) → source.new ≡ source.old }
     ensures no_run { MadeNoRun (Some command) (S.left source.old) result.status → result.keeper ≡ keeper }
     ensures tells { Tells (K.records keeper) → Tells (K.records result.keeper) }
+    ensures gone { Tells (K.records keeper) → IsKeptBy (Some command) (S.left source.old) (K.records keeper)
+        (K.records result.keeper) }
 {
     let task = match task_of(alloc, command, source) {
         Ok(task) => task,
@@ -71,17 +74,22 @@ fn obey<S: Source, D: Sink, K: Keeper + Drop>(
 /// - `image` reads a workload to its end, runs it by its picks until a recovery begins, and writes the image of what is
 ///   kept then; a workload without an order to stop is stopped at the greatest step;
 /// - `recover` reads an image to its end, and writes the map that a recovery makes of it;
+/// - `audit` reads a report to its end, and writes `audit yes` where the lines of its history are good;
+/// - `link` reads the events of a link to their end, makes them happen, and writes what each of them tells;
 /// - `bulk START OPS` reads nothing, runs the workload that is generated from the number START, with so many
 ///   operations, and writes the summary.
 ///
-/// A run is made over the keeper, which is begun anew; `recover` makes none.
+/// A run is made over the keeper, which is begun anew; `recover`, `audit` and `link` make none. The lines of the history
+/// of what `replay` writes are good.
 ///
 /// `Usage` where the arguments are none of these; `TooLarge(Ops, 0)` where OPS is more than `OP_LIMIT`; `BadLine` and
-/// `TooLarge` where the input is no workload, with its first faulty line, or has more than `INPUT_LIMIT` bytes;
-/// `BadImage` and `Conflict` where it is no image, with its first faulty line: each writes one line. `ReadFault`,
-/// `WriteFault` and `KeeperFault` where a read, a write or a call of the keeper failed. The first cause decides, in the
-/// order arguments, reading, grammar, run, writing; nothing is written before the run has ended. The keeper comes back
-/// with the servers' records at the end of the run; where no run was made it is as it was.
+/// `TooLarge` where the input is no workload, no report or no events of a link, with its first faulty line, or has more
+/// than `INPUT_LIMIT` bytes; `BadImage` and `Conflict` where it is no image, with its first faulty line; `Wrong` where
+/// the lines of a report are not good, with the first line of the input up to which they are not: each writes one line.
+/// `ReadFault`, `WriteFault` and `KeeperFault` where a read, a write or a call of the keeper failed. The first cause
+/// decides, in the order arguments, reading, grammar, run, writing; nothing is written before the run has ended. The
+/// keeper comes back with the servers' records at the end of the run, or where it stopped for want of memory or at a
+/// fault of the keeper; where no run was made it is as it was.
 pub fn top_calm<S: Source, D: Sink, K: Keeper + Drop>(
     alloc: Global,
     words: &[String],
@@ -98,17 +106,24 @@ pub fn top_calm<S: Source, D: Sink, K: Keeper + Drop>(
         (S.fault_count source.old) (S.fault_count source.new)) (¬ Rose (D.fault_count sink.old)
         (D.fault_count sink.new)) (¬ Rose (K.fault_count keeper) (K.fault_count result.keeper)) result.status }
     // What is written is what was due, and it comes only after all was read.
-    ensures written { SeesRun (command_of (map string_bytes words.now)) (K.records keeper) → WroteDue (command_of
-        (map string_bytes words.now)) (S.left source.old) (K.records result.keeper) (D.written sink.old)
+    ensures written { WroteDue (command_of (map string_bytes words.now)) (S.left source.old) (K.records result.keeper) (D.written sink.old)
         (D.written sink.new) result.status }
     ensures first { ReadFirstFor (command_of (map string_bytes words.now)) (S.left source.old)
         (S.left source.new) result.status }
+    // What `replay` has written is a report whose history lines are the operations of the workload, each exactly once,
+    // legal and in real-time order as they are printed.
+    ensures linearizable { command_of (map string_bytes words.now) ≡ Some Command.Replay → result.status ≡ Status.Done
+        → TellsLinearizableReport (S.left source.old) (K.records result.keeper) (D.written sink.old)
+        (D.written sink.new) }
     // Where there is nothing to read, nothing is read.
     ensures untouched { ReadsNothing (command_of (map string_bytes words.now)) → source.new ≡ source.old }
     // Where no run was made the keeper is as it was; one that tells its records goes on telling them.
     ensures no_run { MadeNoRun (command_of (map string_bytes words.now)) (S.left source.old) result.status →
         result.keeper ≡ keeper }
     ensures tells { Tells (K.records keeper) → Tells (K.records result.keeper) }
+    // However the call ends, the keeper is as it was, or has the servers' records after some events of the run.
+    ensures gone { Tells (K.records keeper) → IsKeptBy (command_of (map string_bytes words.now)) (S.left source.old)
+        (K.records keeper) (K.records result.keeper) }
 {
     match command_of(words) {
         Some(command) => obey(alloc, command, source, sink, keeper),
@@ -134,6 +149,8 @@ pub fn top_calm_in_memory(
     ensures decided { IsDecided (command_of (map string_bytes words.now)) source.old result.status }
     ensures written { WroteDue (command_of (map string_bytes words.now)) (Some source.old) (Some result.keeper)
         (Some sink.old) (Some sink.new) result.status }
+    ensures linearizable { command_of (map string_bytes words.now) ≡ Some Command.Replay → result.status ≡ Status.Done
+        → WroteLinearizableReport source.old sink.old sink.new }
     ensures no_run { MadeNoRun (command_of (map string_bytes words.now)) (Some source.old) result.status → result.keeper
         ≡ keeper }
 {

@@ -1,11 +1,11 @@
 use crate::calls::{answered, answered_in_memory, called};
-use crate::rows::ROWS;
 use crate::tests::expect;
 use far_outside::{MemSink, MemSource};
 use run_main::{Ended, Limit, Status};
 use server_keeper::{MapKeeper, ScriptedKeeper};
 use std::alloc::Global;
 use std::test::Fail;
+use worked_texts::{ROWS, USAGE};
 
 /// What is kept where the switch stops in the middle of the second snapshot, and the map of that.
 const KEPT: &str = "far 2 image\nsnap a 1 =p\nclient 0 a 2 =q\nend\n";
@@ -115,8 +115,6 @@ const REFUSED: [(&str, &str, &str, Status); 15] = [
     ),
     ("recover recover", KEPT, USAGE, Status::Usage),
 ];
-
-const USAGE: &str = "usage: far replay, run, image, recover, or bulk START OPS\n";
 
 /// The summary of a generated workload without operations.
 const NOTHING_DONE: &str = "far 1 summary\noperations 0\nanswered 0\norders 4\nsteps 90\nswitch 0\n\

@@ -1,11 +1,11 @@
 use crate::calls::{answered, called};
-use crate::rows::{ROWS, Row};
 use far_outside::{CleanSink, CleanSource, Keeper, MemSink, MemSource, PieceSource, Source};
 use run_main::{Ended, Limit, Status};
 use server_keeper::{MapKeeper, ScriptedKeeper};
 use std::alloc::Global;
 use std::process::Abort;
 use std::test::Fail;
+use worked_texts::{ROWS, Row};
 
 /// No run of a row makes more calls than this.
 const CALLS: u64 = 100;

@@ -1,7 +1,9 @@
 //! Worked rows: what the top call writes for workloads whose reports were computed by hand, and what it answers
-//! where a call outside fails; worlds that go on after a failed call, and stops at every step of a run.
+//! where a call outside fails; what is written of reports that are judged, and what the events of a link tell.
 #![tactic(auto)]
 
+#[cfg(test)]
+mod audits;
 #[cfg(test)]
 mod calls;
 #[cfg(test)]
@@ -9,16 +11,6 @@ mod commands;
 #[cfg(test)]
 mod failing;
 #[cfg(test)]
-mod replays;
-#[cfg(test)]
-mod rows;
-#[cfg(test)]
-mod runs;
-#[cfg(test)]
-mod seen;
-#[cfg(test)]
-mod stops;
+mod links;
 #[cfg(test)]
 mod tests;
-#[cfg(test)]
-mod worlds;

@@ -1,11 +1,11 @@
 use crate::calls::{answered, called};
-use crate::rows::ROWS;
 use far_outside::{CleanSink, CleanSource, Failed, MemSink, MemSource, Source};
 use run_main::{Ended, Limit, Status};
 use server_keeper::{MapKeeper, ScriptedKeeper};
 use std::alloc::Global;
 use std::process::Abort;
 use std::test::Fail;
+use worked_texts::{ROWS, USAGE};
 
 /// Arguments, input, what is written, and the status, where no text of a command is due.
 const REFUSED: [(&str, &str, &str, Status); 21] = [
@@ -86,8 +86,6 @@ const REFUSED: [(&str, &str, &str, Status); 21] = [
     ("Replay", "far 1\n", USAGE, Status::Usage),
     ("", "far 1\n", USAGE, Status::Usage),
 ];
-
-const USAGE: &str = "usage: far replay, run, image, recover, or bulk START OPS\n";
 
 /// A source that gives one byte at a time.
 #[derive(Drop)]

@@ -1,7 +1,7 @@
-use Rattle.std.proofs.Common.{rules, ◌≡◌, sym, ap, ◌∙◌, subst}
+use Rattle.std.proofs.Common.{rules, sym, ap, ◌∙◌, subst}
 use Rattle.workload.specs.Plain.{IsPlain}
 use Rattle.workload.specs.WorkView.{WorkView}
-use Rattle.run_main.specs.Images.{has_stop, with_stop}
+use Rattle.run_main.specs.Images.{has_stop}
 use Rattle.run_main.proofs.Stopping.{stopping_plain, stopping_stops}
 use Rattle.run_main.proofs.keeping.with_stop.Goals as goal
 

@@ -5,9 +5,9 @@ use Rattle.run_main.specs.declared.status.Status.TheVariants.{Done}
 use Rattle.run_main.proofs.top.obey.Goals as goal
 
 pub returns-in-Ok-text-clause-written : goal.returns-in-Ok-text-clause-written
-returns-in-Ok-text-clause-written g c = λ tells.
+returns-in-Ok-text-clause-written g c =
     let made : SeesTask c.in-Ok.task (g.K.Keeper.records c.args.keeper) → IsTextOf c.in-Ok.task c.in-Ok-text.text.items (g.K.Keeper.records c.made_of-text.result.keeper) = λ sees. search rules in
-    wrote _ _ _ _ _ c.in-Ok-text.text.items Done _ (due_text _ _ c.in-Ok.task c.in-Ok.ensures.read.asked c.in-Ok.ensures.read.kind _ _ c.in-Ok-text.text.items tells made)
+    wrote _ _ _ _ _ c.in-Ok-text.text.items Done _ (due_text _ _ c.in-Ok.task c.in-Ok.ensures.read.asked c.in-Ok.ensures.read.kind _ _ c.in-Ok-text.text.items c.made_of-text.ensures.tells made)
     (rw c.deref.ensures.value at c.say.ensures.said)
 
 pub returns-in-Err-clause-settled : goal.returns-in-Err-clause-settled

@@ -1,6 +1,5 @@
 use crate::calls::{ran, ran_between};
 use crate::replays::report_by;
-use crate::rows::ROWS;
 use far_base::Party;
 use far_outside::{Gate, MemSink, MemSource, NoGate};
 use run_main::Status;
@@ -8,6 +7,7 @@ use std::alloc::Global;
 use std::sync::atomic::{AtomicBool, AtomicU64, Ordering};
 use std::test::Fail;
 use std::thread;
+use worked_texts::{ROWS, USAGE};
 
 /// So many turns of its loop a held worker waits at most.
 const TURNS: u32 = 10_000_000;
@@ -128,8 +128,6 @@ fn a_worker_may_wait_for_another(rt: HostRuntime) -> Result<(), Fail> {
     }
     Ok(())
 }
-
-const USAGE: &str = "usage: far replay, run, image, recover, or bulk START OPS\n";
 
 #[test]
 fn a_refused_run_is_one_line(rt: HostRuntime) -> Result<(), Fail> {

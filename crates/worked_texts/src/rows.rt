@@ -1,8 +1,8 @@
 /// A worked row: the input, and the report that was computed by hand.
-pub(crate) type Row = (&'static str, &'static str);
+pub type Row = (&'static str, &'static str);
 
 /// Workloads, each with what the program writes for it.
-pub(crate) const ROWS: [Row; 20] = [
+pub const ROWS: [Row; 20] = [
     // A workload without operations.
     (
         "far 1\nclients 1\nservers 1\nslots 1\nhot 0\n",

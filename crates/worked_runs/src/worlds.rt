@@ -2,7 +2,6 @@ ghost use Rattle.std.specs.Prelude.{◌≡◌, IfOk};
 ghost use Rattle.far_base.specs.Limits.{IsPlan};
 ghost use Rattle.far_model.specs.View.{opening_view};
 
-use crate::rows::ROWS;
 use crate::seen::{deeds_of, have_an_order, have_the_same, newest_of, recoveries_of};
 use far_base::{Event, Plan, Record};
 use far_history::{Log, report_text};
@@ -14,6 +13,7 @@ use std::alloc::Global;
 use std::process::Abort;
 use std::test::Fail;
 use switch_core::{PlainSwitch, Switch};
+use worked_texts::ROWS;
 use workload::{Picker, Workload, parse};
 
 /// No workload of a test has more bytes.

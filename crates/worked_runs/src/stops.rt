@@ -1,9 +1,9 @@
-use crate::rows::ROWS;
 use crate::worlds::{begun, judge, log_of, read, watched};
 use server_keeper::MapKeeper;
 use std::alloc::Global;
 use std::process::Abort;
 use std::test::Fail;
+use worked_texts::ROWS;
 
 /// No run of a test makes more steps.
 const MOST: u64 = 1_000;
