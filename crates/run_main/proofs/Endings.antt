@@ -195,7 +195,7 @@ module _ (command : Command) (left : Left) (task : Task) (asked : IfSome (input_
   IsOfRun Memory = Unit {0}
   IsOfRun _ = ⊥
 
-  fault_kinds : (rose : Type 0) (status : Status) → IsTaskFault task rose status → (status ≡ KeeperFault) ⊎ (status ≡ Memory)
+  pub fault_kinds : (rose : Type 0) (status : Status) → IsTaskFault task rose status → (status ≡ KeeperFault) ⊎ (status ≡ Memory)
   fault_kinds rose status h = go task status h
     where
       runs : (s : Status) → IsRunFault rose s → (s ≡ KeeperFault) ⊎ (s ≡ Memory)

@@ -1,4 +1,5 @@
 mod Endings
+mod FaultCountings
 mod Finishing
 mod ImageReadings
 mod Judging

@@ -1,6 +1,6 @@
 -- What is told of a world that was run to its end by the picks of a workload is what running it gives.
 use Rattle.std.proofs.Common.{◌≡◌, ℕ, true, List, [], ◌++◌, Some, None, sym, ap, ◌∙◌, subst}
-use Rattle.std.specs.Prelude.{IfOk, Option, Result, Ok, Err}
+use Rattle.std.specs.Prelude.{IfOk, OnOk, Option, Result, Ok, Err}
 use Rattle.far_base.specs.PlanView.{PlanView}
 use Rattle.far_base.specs.declared.event.Event.{Event}
 use Rattle.far_base.specs.declared.record.Record.{Record}
@@ -33,6 +33,15 @@ ok_map P Q (Err e) f h = tt
 pub ok_both : {T E : Type 0} → (P Q : T → Type 0) (r : Result T E) → IfOk r P → IfOk r Q → IfOk r (λ x. P x × Q x)
 ok_both P Q (Ok x) h k = (h, k)
 ok_both P Q (Err e) h k = tt
+
+-- what follows where there is an answer
+pub on_ok : {T E : Type 0} → (P Q : Type 0) (r : Result T E) → (P → Q) → OnOk r P → OnOk r Q
+on_ok P Q (Ok x) f h = f h
+on_ok P Q (Err e) f h = tt
+
+pub on_any : {P T E : Type 0} → (r : Result T E) → P → OnOk r P
+on_any (Ok x) h = h
+on_any (Err e) h = tt
 
 -- only the picks of the workload are asked for
 pub same_picks : (work : WorkView) (plan : PlanView) (old new : Ran) (count : ℕ) → HasPumped work old new count → HasPumped (record work { plan = plan }) old new count

@@ -1,4 +1,5 @@
 pub mod Commands
+pub mod FaultCounts
 pub mod Images
 pub mod Inputs
 pub mod LineCall

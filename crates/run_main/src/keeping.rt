@@ -1,4 +1,4 @@
-ghost use Rattle.std.specs.Prelude.{◌≡◌, ◌≤◌, [], map, true, is_some, IfOk, IfErr, IfSome};
+ghost use Rattle.std.specs.Prelude.{◌≡◌, ◌≤◌, [], map, true, is_some, IfOk, IfErr, IfSome, OnOk};
 ghost use Rattle.far_base.specs.Limits.{is_stop};
 ghost use Rattle.far_model.specs.Kept.{kept_records};
 ghost use Rattle.far_model.specs.State.{opening};
@@ -62,6 +62,7 @@ fn image_of<K: Keeper + Drop>(alloc: Global, world: &mut World<Cache, K>) -> Res
         (kept_records world.old.state)) }
     ensures reads { Tells world.old.keeper.records → IfOk result (λ text. AreTold (kept_records world.old.state) →
         IsImage text.items (map told_item (kept_records world.old.state))) }
+    ensures unfailed { OnOk result (world.new.keeper.faults ≡ world.old.keeper.faults) }
     ensures fault { IfErr result (IsRunFault (Rose world.old.keeper.faults world.new.keeper.faults)) }
     ensures later { world.old.keeper.faults ≤ world.new.keeper.faults }
     ensures world { world.new ≡ with_count world.old world.new.keeper.faults }
@@ -87,6 +88,7 @@ fn run_to_recovery<K: Keeper + Drop>(
     requires state { Tells world.keeper.records → world.state ≡ opening world.plan }
     ensures text { Tells world.keeper.records → IfOk result.text (λ text. IfSome (K.records result.keeper)
         (λ all. IsImageOf (record load.now { plan = world.plan }) text.items all)) }
+    ensures unfailed { OnOk result.text (K.fault_count result.keeper ≡ world.keeper.faults) }
     ensures fault { IfErr result.text (IsRunFault (Rose world.keeper.faults (K.fault_count result.keeper))) }
     ensures later { world.keeper.faults ≤ K.fault_count result.keeper }
     ensures tells { is_some (K.records result.keeper) ≡ is_some world.keeper.records }
@@ -107,6 +109,7 @@ pub(crate) fn keep<K: Keeper + Drop>(alloc: Global, load: Workload, keeper: K) -
     requires { IsPlain load }
     ensures text { Tells (K.records keeper) → IfOk result.text (λ text. IsTextOf (Task.Keep load) text.items
         (K.records result.keeper)) }
+    ensures unfailed { OnOk result.text (K.fault_count result.keeper ≡ K.fault_count keeper) }
     ensures fault { IfErr result.text (IsRunFault (Rose (K.fault_count keeper) (K.fault_count result.keeper))) }
     ensures later { K.fault_count keeper ≤ K.fault_count result.keeper }
     ensures tells { is_some (K.records result.keeper) ≡ is_some (K.records keeper) }

@@ -1,7 +1,9 @@
-ghost use Rattle.std.specs.Prelude.{◌≡◌, ◌↔◌, ◌≤◌, length, IsTrue, IfErr, IfOk, IfSome, OnOk, codes, map, string_bytes};
+ghost use Rattle.std.specs.Prelude.{◌≡◌, ◌≢◌, ◌↔◌, ◌≤◌, length, IsTrue, IfErr, IfOk, IfSome, OnOk, codes, map};
+ghost use Rattle.std.specs.Prelude.{string_bytes};
 ghost use Rattle.far_base.specs.Limits.{IsConfig};
 ghost use Rattle.far_base.specs.declared.plan.TheConstants.{OP_LIMIT};
 ghost use Rattle.far_outside.specs.Faults.{Rose};
+ghost use Rattle.run_main.specs.FaultCounts.{StoppedReading};
 ghost use Rattle.run_main.specs.LineCall.{HasLineCause, IsLineParsingFault, IsLineReadingFault, IsLineSettled};
 ghost use Rattle.run_main.specs.LineCall.{IsLineWord, IsPacketLine, IsReadLine, LineWroteDue, SettlesLine};
 ghost use Rattle.run_main.specs.LineCall.{line_output};
@@ -57,6 +59,9 @@ fn read_line<S: Source>(alloc: Global, source: &mut S) -> Result<PacketLine, Sta
     ensures config { IfOk result (λ line. IsConfig line.config) }
     ensures few { IfOk result (λ line. length line.packets ≤ OP_LIMIT) }
     ensures end { OnOk result (ReadToEnd (S.left source.old) (S.left source.new)) }
+    ensures unfailed { OnOk result (S.fault_count source.new ≡ S.fault_count source.old) }
+    ensures unstopped { IfErr result (λ status. ¬ (StoppedReading (S.left source.old) status)
+        → S.fault_count source.new ≡ S.fault_count source.old) }
     ensures cause { IfErr result (IsLineReadingFault (S.left source.old) (Rose (S.fault_count source.old)
         (S.fault_count source.new))) }
     ensures first { IfErr result (ReadFirst (S.left source.old) (S.left source.new)) }
@@ -91,6 +96,9 @@ fn passed<G: StageGate + Sync, R: Threads + Wait + Sync>(
 /// packets, with its first faulty line, or has more than `INPUT_LIMIT` bytes: each writes one line. `ReadFault` and
 /// `WriteFault` where a read or a write failed. The first cause decides, in the order arguments, reading, grammar,
 /// passing, writing; nothing is written before all packets have passed.
+///
+/// The source's count of faults is as before unless the answer is `ReadFault` or `Memory`, or the input has more than
+/// `INPUT_LIMIT` bytes; the sink's unless it is `WriteFault` or `Memory`.
 pub fn top_line<S: Source, D: Sink, G: StageGate + Sync, R: Threads + Wait + Sync>(
     rt: &R,
     alloc: Global,
@@ -105,6 +113,11 @@ pub fn top_line<S: Source, D: Sink, G: StageGate + Sync, R: Threads + Wait + Syn
     // Where no count rose the answer is the one that is due, unless memory was refused.
     ensures settled { IsLineSettled (map string_bytes words.now) (S.left source.old) (¬ Rose (S.fault_count source.old)
         (S.fault_count source.new)) (¬ Rose (D.fault_count sink.old) (D.fault_count sink.new)) result }
+    // A count of faults is as before where the answer names neither its fault nor want of memory.
+    ensures unfailed_source { ¬ (StoppedReading (S.left source.old) result) → S.fault_count source.new
+        ≡ S.fault_count source.old }
+    ensures unfailed_sink { result ≢ Status.WriteFault → result ≢ Status.Memory → D.fault_count sink.new
+        ≡ D.fault_count sink.old }
     // What is written is what was due, and an output comes only after all was read.
     ensures written { LineWroteDue (map string_bytes words.now) (S.left source.old) (D.written sink.old)
         (D.written sink.new) result }

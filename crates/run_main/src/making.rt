@@ -1,4 +1,4 @@
-ghost use Rattle.std.specs.Prelude.{◌≡◌, ◌≤◌, is_some, IfOk, IfErr};
+ghost use Rattle.std.specs.Prelude.{◌≡◌, ◌≤◌, is_some, IfOk, IfErr, OnOk};
 ghost use Rattle.far_outside.specs.Faults.{Rose};
 ghost use Rattle.run_main.specs.Gone.{IsStillOrGone};
 ghost use Rattle.run_main.specs.Replay.{Tells};
@@ -21,6 +21,7 @@ pub(crate) fn made_of<K: Keeper + Drop>(alloc: Global, task: Task, keeper: K) ->
     requires { IsReady task }
     ensures text { SeesTask task (K.records keeper) → IfOk result.text (λ text. IsTextOf task text.items
         (K.records result.keeper)) }
+    ensures unfailed { OnOk result.text (K.fault_count result.keeper ≡ K.fault_count keeper) }
     ensures fault { IfErr result.text (IsTaskFault task (Rose (K.fault_count keeper) (K.fault_count result.keeper))) }
     ensures later { K.fault_count keeper ≤ K.fault_count result.keeper }
     ensures tells { is_some (K.records result.keeper) ≡ is_some (K.records keeper) }

@@ -1,8 +1,10 @@
-ghost use Rattle.std.specs.Prelude.{◌≡◌, ◌⊎◌, ◌≤◌, ◌++◌, [], ◌∷◌, ℕ, IfOk, IfNone, IfSome, OnOk, Some, map, string_bytes};
+ghost use Rattle.std.specs.Prelude.{◌≡◌, ◌≢◌, ◌⊎◌, ◌≤◌, ◌++◌, [], ◌∷◌, ℕ, IfOk, IfNone, IfSome, OnOk, Some};
+ghost use Rattle.std.specs.Prelude.{map, string_bytes};
 ghost use Rattle.far_base.specs.Limits.{IsPlan};
 ghost use Rattle.far_outside.specs.Faults.{Rose};
 ghost use Rattle.far_world.specs.Reached.{Ran};
 ghost use Rattle.pipe_fabric.specs.declared.parts.TheConstants.{PIPE_LIMIT};
+ghost use Rattle.run_main.specs.FaultCounts.{StoppedReading};
 ghost use Rattle.run_main.specs.Pipes.{ArePipesOfInput, AsksFor, AsksForPipes, IsPipesReport, IsPipesReportOfInput};
 ghost use Rattle.run_main.specs.Pipes.{lists_in, pipes_in_limit, pipes_named, pipes_of};
 ghost use Rattle.run_main.specs.PipeWorlds.{HasReport, HasReports, IsTextOfWorlds};
@@ -170,6 +172,8 @@ fn run_to_end<G: PipeGate + Sync, R: Threads + Wait + Sync>(
 fn reported<D: Sink>(alloc: Global, sink: &mut D, made: Reports) -> PipesEnded
     ensures said { Says (D.written sink.old) (D.written sink.new) made.text.items Status.Done result.status }
     ensures answer { IsAnswer Status.Done result.status }
+    ensures unfailed { result.status ≢ Status.WriteFault → result.status ≢ Status.Memory → D.fault_count sink.new
+        ≡ D.fault_count sink.old }
     ensures cause { result.status ≡ Status.WriteFault → Rose (D.fault_count sink.old) (D.fault_count sink.new) }
     ensures calm { ¬ Rose (D.fault_count sink.old) (D.fault_count sink.new)
         → (result.status ≡ Status.Done) ⊎ (result.status ≡ Status.Memory) }
@@ -191,6 +195,9 @@ fn reported<D: Sink>(alloc: Global, sink: &mut D, made: Reports) -> PipesEnded
 /// line. `ReadFault` and `WriteFault` where a read or a write failed. The first cause decides, in the order arguments,
 /// reading, grammar, runs, writing; nothing is written before all runs have ended. Where no run was made, or memory was
 /// refused, there are no events.
+///
+/// The source's count of faults is as before unless the answer is `ReadFault` or `Memory`, or the input has more than
+/// `INPUT_LIMIT` bytes; the sink's unless it is `WriteFault` or `Memory`.
 pub fn top_pipes<S: Source, D: Sink, G: PipeGate + Sync, R: Threads + Wait + Sync>(
     rt: &R,
     alloc: Global,
@@ -207,6 +214,11 @@ pub fn top_pipes<S: Source, D: Sink, G: PipeGate + Sync, R: Threads + Wait + Syn
     ensures settled { IsRunSettled (AsksForPipes (map string_bytes words.now)) (S.left source.old) (¬ Rose
         (S.fault_count source.old) (S.fault_count source.new)) (¬ Rose (D.fault_count sink.old)
         (D.fault_count sink.new)) result.status }
+    // A count of faults is as before where the answer names neither its fault nor want of memory.
+    ensures unfailed_source { ¬ (StoppedReading (S.left source.old) result.status) → S.fault_count source.new
+        ≡ S.fault_count source.old }
+    ensures unfailed_sink { result.status ≢ Status.WriteFault → result.status ≢ Status.Memory → D.fault_count sink.new
+        ≡ D.fault_count sink.old }
     // What is written is what was due, and the reports come only after all was read.
     ensures written { RunWroteDue (AsksForPipes (map string_bytes words.now)) (S.left source.old)
         (IsPipesReportOfInput (map string_bytes words.now) (lists_in result.events.items)) (D.written sink.old)

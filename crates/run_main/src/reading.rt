@@ -2,6 +2,7 @@ ghost use Rattle.std.specs.Prelude.{◌≡◌, ◌≤◌, length, IfOk, IfErr, I
 ghost use Rattle.far_outside.specs.Faults.{Rose};
 ghost use Rattle.far_outside.specs.Reading.{HasReadAll};
 ghost use Rattle.workload.specs.Plain.{IsPlain};
+ghost use Rattle.run_main.specs.FaultCounts.{StoppedReading};
 ghost use Rattle.run_main.specs.Inputs.{IsApproved, IsKeptList, IsWorkload, IsLinkScript};
 ghost use Rattle.run_main.specs.Saying.{IsImageParsingFault, IsImageReadingFault, IsParsingFault, IsRead, IsReadImage, IsReadingFault, IsTextFault, SettlesImage, SettlesReading, SettlesText, IsApprovedOnly, IsJudgingFault, IsReportFault, SettlesReport, IsReadScript, IsScriptParsingFault, IsScriptReadingFault, SettlesScript};
 ghost use Rattle.run_main.specs.Tasks.{HasWholeOps};
@@ -17,10 +18,12 @@ use log_audit::{audit, read_report};
 use std::alloc::Global;
 use workload::{Limit, Workload, parse};
 
-/// The text that the source has left, to its end.
+/// The text that the source has left, to its end. Where this is answered the source has counted no fault.
 pub(crate) fn read_text<S: Source>(alloc: Global, source: &mut S) -> Result<Vec<u8>, Status>
     ensures whole { IfOk result (λ bytes. HasReadAll (S.left source.old) (S.left source.new) bytes.items) }
     ensures short { IfOk result (λ bytes. length bytes.items ≤ INPUT_LIMIT) }
+    ensures unfailed { OnOk result (S.fault_count source.new ≡ S.fault_count source.old) }
+    ensures stopped { IfErr result (StoppedReading (S.left source.old)) }
     ensures cause { IfErr result (IsTextFault (S.left source.old) (Rose (S.fault_count source.old)
         (S.fault_count source.new))) }
     ensures first { IfErr result (ReadFirst (S.left source.old) (S.left source.new)) }
@@ -57,6 +60,9 @@ pub(crate) fn read_workload<S: Source>(alloc: Global, source: &mut S) -> Result<
     ensures plain { IfOk result (λ work. IsPlain work) }
     ensures whole { IfOk result (λ work. HasWholeOps work.plan) }
     ensures end { OnOk result (ReadToEnd (S.left source.old) (S.left source.new)) }
+    ensures unfailed { OnOk result (S.fault_count source.new ≡ S.fault_count source.old) }
+    ensures unstopped { IfErr result (λ status. ¬ (StoppedReading (S.left source.old) status)
+        → S.fault_count source.new ≡ S.fault_count source.old) }
     ensures cause { IfErr result (IsReadingFault (S.left source.old) (Rose (S.fault_count source.old)
         (S.fault_count source.new))) }
     ensures first { IfErr result (ReadFirst (S.left source.old) (S.left source.new)) }
@@ -84,6 +90,9 @@ fn parsed_image(alloc: Global, text: &[u8]) -> Result<Image, Status>
 pub(crate) fn read_image<S: Source>(alloc: Global, source: &mut S) -> Result<Image, Status>
     ensures read { IfOk result (λ image. IfSome (S.left source.old) (λ input. IsReadImage input image)) }
     ensures end { OnOk result (ReadToEnd (S.left source.old) (S.left source.new)) }
+    ensures unfailed { OnOk result (S.fault_count source.new ≡ S.fault_count source.old) }
+    ensures unstopped { IfErr result (λ status. ¬ (StoppedReading (S.left source.old) status)
+        → S.fault_count source.new ≡ S.fault_count source.old) }
     ensures cause { IfErr result (IsImageReadingFault (S.left source.old) (Rose (S.fault_count source.old)
         (S.fault_count source.new))) }
     ensures first { IfErr result (ReadFirst (S.left source.old) (S.left source.new)) }
@@ -117,6 +126,9 @@ fn judged(alloc: Global, text: &[u8]) -> Result<(), Status>
 pub(crate) fn judge_report<S: Source>(alloc: Global, source: &mut S) -> Result<(), Status>
     ensures approved { OnOk result (IfSome (S.left source.old) IsApprovedOnly) }
     ensures end { OnOk result (ReadToEnd (S.left source.old) (S.left source.new)) }
+    ensures unfailed { OnOk result (S.fault_count source.new ≡ S.fault_count source.old) }
+    ensures unstopped { IfErr result (λ status. ¬ (StoppedReading (S.left source.old) status)
+        → S.fault_count source.new ≡ S.fault_count source.old) }
     ensures cause { IfErr result (IsReportFault (S.left source.old) (Rose (S.fault_count source.old)
         (S.fault_count source.new))) }
     ensures first { IfErr result (ReadFirst (S.left source.old) (S.left source.new)) }
@@ -146,6 +158,9 @@ pub(crate) fn read_script<S: Source>(alloc: Global, source: &mut S) -> Result<Sc
     ensures read { IfOk result (λ events. IfSome (S.left source.old) (λ input. IsReadScript input events)) }
     ensures events { IfOk result AreLinkEvents }
     ensures end { OnOk result (ReadToEnd (S.left source.old) (S.left source.new)) }
+    ensures unfailed { OnOk result (S.fault_count source.new ≡ S.fault_count source.old) }
+    ensures unstopped { IfErr result (λ status. ¬ (StoppedReading (S.left source.old) status)
+        → S.fault_count source.new ≡ S.fault_count source.old) }
     ensures cause { IfErr result (IsScriptReadingFault (S.left source.old) (Rose (S.fault_count source.old)
         (S.fault_count source.new))) }
     ensures first { IfErr result (ReadFirst (S.left source.old) (S.left source.new)) }

@@ -1,6 +1,7 @@
-ghost use Rattle.std.specs.Prelude.{◌≡◌, ◌↔◌, ◌⊎◌, ◌≤◌, [], IsTrue, IfOk, IfSome, codes, map, string_bytes};
+ghost use Rattle.std.specs.Prelude.{◌≡◌, ◌≢◌, ◌↔◌, ◌⊎◌, ◌≤◌, [], IsTrue, IfOk, IfSome, codes, map, string_bytes};
 ghost use Rattle.far_base.specs.Limits.{IsPlan};
 ghost use Rattle.far_outside.specs.Faults.{Rose};
+ghost use Rattle.run_main.specs.FaultCounts.{StoppedReading};
 ghost use Rattle.run_main.specs.Run.{HandsBack, HasRunCause, IsReportOfInput, IsRunOfInput, IsRunReport, IsRunSettled};
 ghost use Rattle.run_main.specs.Run.{IsRunWord, IsUsageAnswer, RunWroteDue};
 ghost use Rattle.run_main.specs.Saying.{IsAnswer, IsRead, Says};
@@ -82,6 +83,8 @@ fn run_to_end<G: Gate + Sync, R: Threads + Wait + Sync>(
 fn reported<D: Sink>(alloc: Global, sink: &mut D, finished: Finished) -> RunEnded
     ensures said { Says (D.written sink.old) (D.written sink.new) finished.report.items Status.Done result.status }
     ensures answer { IsAnswer Status.Done result.status }
+    ensures unfailed { result.status ≢ Status.WriteFault → result.status ≢ Status.Memory → D.fault_count sink.new
+        ≡ D.fault_count sink.old }
     ensures cause { result.status ≡ Status.WriteFault → Rose (D.fault_count sink.old) (D.fault_count sink.new) }
     ensures calm { ¬ Rose (D.fault_count sink.old) (D.fault_count sink.new)
         → (result.status ≡ Status.Done) ⊎ (result.status ≡ Status.Memory) }
@@ -101,6 +104,9 @@ fn reported<D: Sink>(alloc: Global, sink: &mut D, finished: Finished) -> RunEnde
 /// with its first faulty line, or has more than `INPUT_LIMIT` bytes: each writes one line. `ReadFault` and `WriteFault`
 /// where a read or a write failed. The first cause decides, in the order arguments, reading, grammar, run, writing;
 /// nothing is written before the run has ended. Where no run was made, or memory was refused, there are no events.
+///
+/// The source's count of faults is as before unless the answer is `ReadFault` or `Memory`, or the input has more than
+/// `INPUT_LIMIT` bytes; the sink's unless it is `WriteFault` or `Memory`.
 pub fn top_run<S: Source, D: Sink, G: Gate + Sync, R: Threads + Wait + Sync>(
     rt: &R,
     alloc: Global,
@@ -115,6 +121,11 @@ pub fn top_run<S: Source, D: Sink, G: Gate + Sync, R: Threads + Wait + Sync>(
     // Where no count rose the answer is the one that is due, unless memory was refused.
     ensures settled { IsRunSettled (IsRunWord (map string_bytes words.now)) (S.left source.old) (¬ Rose (S.fault_count source.old)
         (S.fault_count source.new)) (¬ Rose (D.fault_count sink.old) (D.fault_count sink.new)) result.status }
+    // A count of faults is as before where the answer names neither its fault nor want of memory.
+    ensures unfailed_source { ¬ (StoppedReading (S.left source.old) result.status) → S.fault_count source.new
+        ≡ S.fault_count source.old }
+    ensures unfailed_sink { result.status ≢ Status.WriteFault → result.status ≢ Status.Memory → D.fault_count sink.new
+        ≡ D.fault_count sink.old }
     // What is written is what was due, and a report comes only after all was read.
     ensures written { RunWroteDue (IsRunWord (map string_bytes words.now)) (S.left source.old)
         (IsReportOfInput result.events.items) (D.written sink.old) (D.written sink.new) result.status }

@@ -1,4 +1,4 @@
-ghost use Rattle.std.specs.Prelude.{◌≡◌, ◌≤◌, [], true, is_some, length, IfOk, IfErr, IfSome};
+ghost use Rattle.std.specs.Prelude.{◌≡◌, ◌≤◌, [], true, is_some, length, IfOk, IfErr, IfSome, OnOk};
 ghost use Rattle.far_base.specs.Limits.{IsPlan};
 ghost use Rattle.far_history.specs.RoomyLog.{log_view};
 ghost use Rattle.far_model.specs.Answered.{AllAnswered};
@@ -89,6 +89,7 @@ fn run_to_end<K: Keeper + Drop>(
     requires whole { account ≡ Account.Report → HasWholeOps world.plan }
     ensures text { Tells world.keeper.records → IfOk result.text (λ text. IsTextOf (Task.Run
         (record load.now { plan = world.plan }) account) text.items (K.records result.keeper)) }
+    ensures unfailed { OnOk result.text (K.fault_count result.keeper ≡ world.keeper.faults) }
     ensures fault { IfErr result.text (IsRunFault (Rose world.keeper.faults (K.fault_count result.keeper))) }
     ensures later { world.keeper.faults ≤ K.fault_count result.keeper }
     ensures tells { is_some (K.records result.keeper) ≡ is_some world.keeper.records }
@@ -117,6 +118,7 @@ pub(crate) fn replay<K: Keeper + Drop>(
     requires { IsReadyRun load account }
     ensures text { Tells (K.records keeper) → IfOk result.text (λ text. IsTextOf (Task.Run load account) text.items
         (K.records result.keeper)) }
+    ensures unfailed { OnOk result.text (K.fault_count result.keeper ≡ K.fault_count keeper) }
     ensures fault { IfErr result.text (IsRunFault (Rose (K.fault_count keeper) (K.fault_count result.keeper))) }
     ensures later { K.fault_count keeper ≤ K.fault_count result.keeper }
     ensures tells { is_some (K.records result.keeper) ≡ is_some (K.records keeper) }

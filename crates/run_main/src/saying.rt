@@ -8,16 +8,19 @@ use workload::Limit;
 const USAGE: &[u8] =
     b"usage: far replay, run, image, recover, line, pipes P, audit, link, or bulk START OPS\n";
 
-ghost use Rattle.std.specs.Prelude.{◌≡◌, ◌⊎◌, ◌≤◌, [], IfOk, IfSome, None, Some};
+ghost use Rattle.std.specs.Prelude.{◌≡◌, ◌≢◌, ◌⊎◌, ◌≤◌, [], IfOk, IfSome, None, Some};
 ghost use Rattle.far_outside.specs.Faults.{Rose};
 ghost use Rattle.run_main.specs.Lines as lines;
 ghost use Rattle.run_main.specs.Saying.{IsAnswer, IsEarly, IsSaid, Says};
 
-/// Writes the text, in one call, and answers the status that goes with it.
+/// Writes the text, in one call, and answers the status that goes with it. Where this is answered the sink has counted no
+/// fault.
 pub(crate) fn say<D: Sink>(sink: &mut D, text: &[u8], status: Status) -> Status
     requires { IsSaid status }
     ensures said { Says (D.written sink.old) (D.written sink.new) text.now status result }
     ensures answer { IsAnswer status result }
+    ensures unfailed { result ≢ Status.WriteFault → result ≢ Status.Memory → D.fault_count sink.new
+        ≡ D.fault_count sink.old }
     ensures cause { result ≡ Status.WriteFault → Rose (D.fault_count sink.old) (D.fault_count sink.new) }
     ensures calm { ¬ Rose (D.fault_count sink.old) (D.fault_count sink.new) → (result ≡ status) ⊎ (result
         ≡ Status.Memory) }
@@ -38,6 +41,8 @@ pub(crate) fn say_of<D: Sink, E: Drop>(
 ) -> (Status, Vec<E>)
     ensures said { Says (D.written sink.old) (D.written sink.new) text.now Status.Done result.0 }
     ensures answer { IsAnswer Status.Done result.0 }
+    ensures unfailed { result.0 ≢ Status.WriteFault → result.0 ≢ Status.Memory → D.fault_count sink.new
+        ≡ D.fault_count sink.old }
     ensures cause { result.0 ≡ Status.WriteFault → Rose (D.fault_count sink.old) (D.fault_count sink.new) }
     ensures calm { ¬ Rose (D.fault_count sink.old) (D.fault_count sink.new) → (result.0 ≡ Status.Done) ⊎ (result.0
         ≡ Status.Memory) }
@@ -124,6 +129,8 @@ pub(crate) fn refuse<D: Sink>(alloc: Global, sink: &mut D, status: Status) -> St
     ensures silent { lines.refusal_line status ≡ None → (D.written sink.new ≡ D.written sink.old) × ((result ≡ status) ⊎
         (result ≡ Status.Memory)) }
     ensures answer { IsAnswer status result }
+    ensures unfailed { result ≢ Status.WriteFault → result ≢ Status.Memory → D.fault_count sink.new
+        ≡ D.fault_count sink.old }
     ensures cause { result ≡ Status.WriteFault → Rose (D.fault_count sink.old) (D.fault_count sink.new) }
     ensures calm { ¬ Rose (D.fault_count sink.old) (D.fault_count sink.new) → (result ≡ status) ⊎ (result
         ≡ Status.Memory) }

@@ -74,6 +74,7 @@ pub(crate) fn started<K: Keeper + Drop>(
     requires { IsPlan plan }
     ensures started { IfOk result (λ world. HasStarted plan (keeper_of (K.records keeper) (K.server_count keeper)
         (K.ceiling keeper) (K.fault_count keeper)) world) }
+    ensures unfailed { IfOk result (λ world. world.keeper.faults ≡ K.fault_count keeper) }
     ensures fault { IfErr result (λ none. IsRunFault (Rose (K.fault_count keeper)
         (K.fault_count none.keeper)) none.status) }
     ensures later { IfErr result (λ none. K.fault_count keeper ≤ K.fault_count none.keeper) }

@@ -4,6 +4,7 @@ ghost use Rattle.far_outside.specs.Faults.{Rose};
 ghost use Rattle.workload.specs.Draws.{generated};
 ghost use Rattle.workload.specs.Plain.{IsPlain};
 ghost use Rattle.run_main.specs.Commands.{HasNumbers, Reads};
+ghost use Rattle.run_main.specs.FaultCounts.{StoppedReading};
 ghost use Rattle.run_main.specs.Saying.{HasRead};
 
 use crate::command::Command;
@@ -39,8 +40,11 @@ pub(crate) enum Task {
 }
 
 fn replay_task<S: Source>(alloc: Global, source: &mut S) -> Result<Task, Status>
-    ensures { HasRead Command.Replay (S.left source.old) (S.left source.new) (Rose (S.fault_count source.old)
+    ensures read { HasRead Command.Replay (S.left source.old) (S.left source.new) (Rose (S.fault_count source.old)
         (S.fault_count source.new)) result }
+    ensures unfailed { OnOk result (S.fault_count source.new ≡ S.fault_count source.old) }
+    ensures unstopped { IfErr result (λ status. ¬ (StoppedReading (S.left source.old) status)
+        → S.fault_count source.new ≡ S.fault_count source.old) }
 {
     match read_workload(alloc, source) {
         Ok(load) => Ok(Task::Run(load, Account::Report)),
@@ -49,8 +53,11 @@ fn replay_task<S: Source>(alloc: Global, source: &mut S) -> Result<Task, Status>
 }
 
 fn image_task<S: Source>(alloc: Global, source: &mut S) -> Result<Task, Status>
-    ensures { HasRead Command.Image (S.left source.old) (S.left source.new) (Rose (S.fault_count source.old)
+    ensures read { HasRead Command.Image (S.left source.old) (S.left source.new) (Rose (S.fault_count source.old)
         (S.fault_count source.new)) result }
+    ensures unfailed { OnOk result (S.fault_count source.new ≡ S.fault_count source.old) }
+    ensures unstopped { IfErr result (λ status. ¬ (StoppedReading (S.left source.old) status)
+        → S.fault_count source.new ≡ S.fault_count source.old) }
 {
     match read_workload(alloc, source) {
         Ok(load) => Ok(Task::Keep(load)),
@@ -59,8 +66,11 @@ fn image_task<S: Source>(alloc: Global, source: &mut S) -> Result<Task, Status>
 }
 
 fn recover_task<S: Source>(alloc: Global, source: &mut S) -> Result<Task, Status>
-    ensures { HasRead Command.Recover (S.left source.old) (S.left source.new) (Rose (S.fault_count source.old)
+    ensures read { HasRead Command.Recover (S.left source.old) (S.left source.new) (Rose (S.fault_count source.old)
         (S.fault_count source.new)) result }
+    ensures unfailed { OnOk result (S.fault_count source.new ≡ S.fault_count source.old) }
+    ensures unstopped { IfErr result (λ status. ¬ (StoppedReading (S.left source.old) status)
+        → S.fault_count source.new ≡ S.fault_count source.old) }
 {
     match read_image(alloc, source) {
         Ok(image) => Ok(Task::Merge(image)),
@@ -69,8 +79,11 @@ fn recover_task<S: Source>(alloc: Global, source: &mut S) -> Result<Task, Status
 }
 
 fn audit_task<S: Source>(alloc: Global, source: &mut S) -> Result<Task, Status>
-    ensures { HasRead Command.Audit (S.left source.old) (S.left source.new) (Rose (S.fault_count source.old)
+    ensures read { HasRead Command.Audit (S.left source.old) (S.left source.new) (Rose (S.fault_count source.old)
         (S.fault_count source.new)) result }
+    ensures unfailed { OnOk result (S.fault_count source.new ≡ S.fault_count source.old) }
+    ensures unstopped { IfErr result (λ status. ¬ (StoppedReading (S.left source.old) status)
+        → S.fault_count source.new ≡ S.fault_count source.old) }
 {
     match judge_report(alloc, source) {
         Ok(()) => Ok(Task::Approve),
@@ -79,8 +92,11 @@ fn audit_task<S: Source>(alloc: Global, source: &mut S) -> Result<Task, Status>
 }
 
 fn link_task<S: Source>(alloc: Global, source: &mut S) -> Result<Task, Status>
-    ensures { HasRead Command.Link (S.left source.old) (S.left source.new) (Rose (S.fault_count source.old)
+    ensures read { HasRead Command.Link (S.left source.old) (S.left source.new) (Rose (S.fault_count source.old)
         (S.fault_count source.new)) result }
+    ensures unfailed { OnOk result (S.fault_count source.new ≡ S.fault_count source.old) }
+    ensures unstopped { IfErr result (λ status. ¬ (StoppedReading (S.left source.old) status)
+        → S.fault_count source.new ≡ S.fault_count source.old) }
 {
     match read_script(alloc, source) {
         Ok(script) => Ok(Task::Tell(script)),
@@ -114,6 +130,9 @@ pub(crate) fn task_of<S: Source>(
     requires { HasNumbers command }
     ensures read { HasRead command (S.left source.old) (S.left source.new) (Rose (S.fault_count source.old)
         (S.fault_count source.new)) result }
+    ensures unfailed { OnOk result (S.fault_count source.new ≡ S.fault_count source.old) }
+    ensures unstopped { IfErr result (λ status. ¬ (StoppedReading (S.left source.old) status)
+        → S.fault_count source.new ≡ S.fault_count source.old) }
     ensures untouched { ¬ (Reads command) → source.new ≡ source.old }
 {
     match command {

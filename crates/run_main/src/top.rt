@@ -14,6 +14,7 @@ pub const INPUT_LIMIT: u32 = 16_777_216;
 ghost use Rattle.std.specs.Prelude.{◌≡◌, ◌≢◌, ◌≤◌, Some, map, string_bytes};
 ghost use Rattle.far_outside.specs.Faults.{Rose};
 ghost use Rattle.run_main.specs.Commands.{HasNumbers, Reads, command_of};
+ghost use Rattle.run_main.specs.FaultCounts.{Unfailed};
 ghost use Rattle.run_main.specs.Gone.{IsKeptBy};
 ghost use Rattle.run_main.specs.Replay.{Tells, TellsLinearizableReport, WroteLinearizableReport};
 ghost use Rattle.run_main.specs.Top.{HasCause, IsDecided, IsSettled, MadeNoRun, ReadFirstFor, ReadsNothing};
@@ -40,6 +41,9 @@ fn obey<S: Source, D: Sink, K: Keeper + Drop>(
     ensures settled { IsSettled (Some command) (S.left source.old) (¬ Rose (S.fault_count source.old)
         (S.fault_count source.new)) (¬ Rose (D.fault_count sink.old) (D.fault_count sink.new)) (¬ Rose
         (K.fault_count keeper) (K.fault_count result.keeper)) result.status }
+    ensures unfailed { Unfailed (S.left source.old) (S.fault_count source.new ≡ S.fault_count source.old)
+        (D.fault_count sink.new ≡ D.fault_count sink.old) (K.fault_count result.keeper ≡ K.fault_count keeper)
+        result.status }
     ensures written { WroteDue (Some command) (S.left source.old)
         (K.records result.keeper) (D.written sink.old) (D.written sink.new) result.status }
     ensures first { ReadFirstFor (Some command) (S.left source.old) (S.left source.new) result.status }
@@ -90,6 +94,10 @@ fn obey<S: Source, D: Sink, K: Keeper + Drop>(
 /// decides, in the order arguments, reading, grammar, run, writing; nothing is written before the run has ended. The
 /// keeper comes back with the servers' records at the end of the run, or where it stopped for want of memory or at a
 /// fault of the keeper; where no run was made it is as it was.
+///
+/// The source's count of faults is as before unless the answer is `ReadFault` or `Memory`, or the input has more than
+/// `INPUT_LIMIT` bytes; the sink's unless it is `WriteFault` or `Memory`; the keeper's unless it is
+/// `KeeperFault` or `Memory`.
 pub fn top_calm<S: Source, D: Sink, K: Keeper + Drop>(
     alloc: Global,
     words: &[String],
@@ -105,6 +113,10 @@ pub fn top_calm<S: Source, D: Sink, K: Keeper + Drop>(
     ensures settled { IsSettled (command_of (map string_bytes words.now)) (S.left source.old) (¬ Rose
         (S.fault_count source.old) (S.fault_count source.new)) (¬ Rose (D.fault_count sink.old)
         (D.fault_count sink.new)) (¬ Rose (K.fault_count keeper) (K.fault_count result.keeper)) result.status }
+    // A count of faults is as before where the answer names neither its fault nor want of memory.
+    ensures unfailed { Unfailed (S.left source.old) (S.fault_count source.new ≡ S.fault_count source.old)
+        (D.fault_count sink.new ≡ D.fault_count sink.old) (K.fault_count result.keeper ≡ K.fault_count keeper)
+        result.status }
     // What is written is what was due, and it comes only after all was read.
     ensures written { WroteDue (command_of (map string_bytes words.now)) (S.left source.old) (K.records result.keeper) (D.written sink.old)
         (D.written sink.new) result.status }

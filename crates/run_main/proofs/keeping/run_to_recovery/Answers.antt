@@ -3,7 +3,7 @@ use Rattle.far_world.specs.Reached.{IsReached, Ran}
 use Rattle.far_world.specs.Scene.{KeeperView}
 use Rattle.run_main.proofs.Goings.{goes_some, goes_to_recovery}
 use Rattle.run_main.proofs.Keepings.{image_is}
-use Rattle.run_main.proofs.Replays.{ok_both, ok_map}
+use Rattle.run_main.proofs.Replays.{ok_both, ok_map, on_ok}
 use Rattle.run_main.proofs.keeping.run_to_recovery.Goals as goal
 
 pub returns-clause-text : goal.returns-clause-text
@@ -27,3 +27,8 @@ returns-in-Err-clause-gone g c = λ tells.
     let r = c.handed_back.ensures.reached in
     goes_some c.args.load.now c.args.world c.pump_to_recover.new.world c.requires.events c.requires.state r.told r.records tells _
     (ap (λ (k : KeeperView). k.records) c.handed_back.ensures.keeper) c.in-Err.ensures.some
+
+pub returns-clause-unfailed : goal.returns-clause-unfailed
+returns-clause-unfailed g c =
+    rw c.handed_back-2.ensures.text
+    (on_ok _ _ c.image_of-text.result (λ same. ap (λ (k : KeeperView). k.faults) c.handed_back-2.ensures.keeper ∙ (same ∙ c.in_default.ensures.unfailed)) c.image_of-text.ensures.unfailed)

@@ -1,4 +1,5 @@
 use Rattle.std.proofs.Common.{◌≡◌, sym, ◌∙◌, refl, true≢false}
+use Rattle.run_main.proofs.FaultCountings.{refused}
 use Rattle.run_main.proofs.LineCalls.{line_due_output, line_settled_early, line_wrote}
 use Rattle.run_main.specs.Lines.{usage_line}
 use Rattle.run_main.specs.declared.status.Status.TheVariants.{Usage, Done}
@@ -17,3 +18,7 @@ returns-in-Ok-passed-clause-written g c =
     line_wrote _ _ _ _ c.in-Ok-passed.text.items Done _
     (line_due_output _ _ c.in-Ok.line _ (c.is_line.ensures.0 c.if-not-is_line.false) c.in-Ok.ensures.read c.in-Ok-passed.ensures)
     (rw c.deref.ensures.value at c.say.ensures.said)
+
+pub returns-in-Err-clause-unfailed_source : goal.returns-in-Err-clause-unfailed_source
+returns-in-Err-clause-unfailed_source g c =
+    refused (g.S.Source.left c.args.source.now) _ c.in-Err.status c.refuse-in-Err.result c.in-Err.ensures.unstopped c.refuse-in-Err.ensures.answer (λ none. (c.refuse-in-Err.ensures.silent none).1)

@@ -1,6 +1,7 @@
 use Rattle.std.proofs.Common.{◌≡◌, ℕ, List, [], map, string_bytes, refl, ap}
 use Rattle.std.specs.Global.{Global}
 use Rattle.far_outside.specs.Faults.{Rose}
+use Rattle.run_main.proofs.FaultCountings.{refused}
 use Rattle.run_main.proofs.Finishing.{run_events, run_events_early, run_settled_early, run_wrote, run_wrote_early, run_wrote_report}
 use Rattle.run_main.proofs.Piping.{asked, not_asked, pipes_fit, pipes_report_fits}
 use Rattle.run_main.specs.Lines.{usage_line}
@@ -45,3 +46,8 @@ returns-in-Ok-run_to_end-clause-events g c =
     run_events (AsksForPipes words) (g.S.Source.left c.args.source.now) (g.S.Source.left c.read_workload.new.source) (ArePipesOfInput words (lists_in c.reported.result.events.items)) (c.reported.result.events.items ≡ []) c.reported.result.status
     (asked words c.in-Some.pipes c.in-Some.ensures.found) c.in-Ok.ensures.end c.reported.ensures.answer c.reported.ensures.events.0
     (λ some. pipes_fit words c.in-Some.pipes (g.S.Source.left c.args.source.now) c.in-Ok.load (lists_in c.reported.result.events.items) (lists_in c.in-Ok-run_to_end.made.events.items) c.in-Ok-run_to_end.made.text.items c.in-Some.ensures.found c.in-Ok.ensures.read c.in-Ok-run_to_end.ensures (ap lists_in (c.reported.ensures.events.1 some)))
+
+pub returns-in-Err-clause-unfailed_source : goal.returns-in-Err-clause-unfailed_source
+returns-in-Err-clause-unfailed_source g c =
+    rw c.without_pipes-in-Err.ensures.status
+    (refused (g.S.Source.left c.args.source.now) _ c.in-Err.status c.refuse-in-Err.result c.in-Err.ensures.unstopped c.refuse-in-Err.ensures.answer (λ none. (c.refuse-in-Err.ensures.silent none).1))

@@ -1,4 +1,5 @@
 use Rattle.std.proofs.Common.{◌≡◌, sym, ◌∙◌, refl, true≢false}
+use Rattle.run_main.proofs.FaultCountings.{refused}
 use Rattle.run_main.proofs.Finishing.{report_fits, run_events, run_fits, run_settled_early, run_wrote, run_wrote_report}
 use Rattle.run_main.specs.Lines.{usage_line}
 use Rattle.run_main.specs.Run.{IsRunOfInput}
@@ -24,3 +25,8 @@ pub returns-in-Ok-run_to_end-clause-events : goal.returns-in-Ok-run_to_end-claus
 returns-in-Ok-run_to_end-clause-events g c =
     run_events _ (g.S.Source.left c.args.source.now) (g.S.Source.left c.read_workload.new.source) (IsRunOfInput c.reported.result.events.items) _ _ (c.is_run.ensures.0 c.if-not-is_run.false) c.in-Ok.ensures.end c.reported.ensures.answer c.reported.ensures.events.0
     (λ some. run_fits (g.S.Source.left c.args.source.now) c.in-Ok.load c.reported.result.events.items c.in-Ok-run_to_end.finished.events.items c.in-Ok.ensures.read c.in-Ok-run_to_end.ensures.run (c.reported.ensures.events.1 some))
+
+pub returns-in-Err-clause-unfailed_source : goal.returns-in-Err-clause-unfailed_source
+returns-in-Err-clause-unfailed_source g c =
+    rw c.without_events-in-Err.ensures.status
+    (refused (g.S.Source.left c.args.source.now) _ c.in-Err.status c.refuse-in-Err.result c.in-Err.ensures.unstopped c.refuse-in-Err.ensures.answer (λ none. (c.refuse-in-Err.ensures.silent none).1))

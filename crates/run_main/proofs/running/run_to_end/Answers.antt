@@ -1,7 +1,7 @@
-use Rattle.std.proofs.Common.{ap, refl}
+use Rattle.std.proofs.Common.{◌∙◌, ap, refl}
 use Rattle.far_world.specs.Scene.{KeeperView}
 use Rattle.run_main.proofs.Goings.{goes_some, goes_to_end}
-use Rattle.run_main.proofs.Replays.{ok_map, replay_is, same_picks}
+use Rattle.run_main.proofs.Replays.{ok_map, on_any, replay_is, same_picks}
 use Rattle.run_main.proofs.running.run_to_end.Goals as goal
 
 pub returns-clause-text : goal.returns-clause-text
@@ -23,3 +23,8 @@ returns-in-Err-clause-gone g c = λ tells.
     let r = c.handed_back.ensures.reached in
     goes_some c.args.load.now c.args.world c.pump.new.world c.requires.events c.requires.state r.told r.records tells _
     (ap (λ (k : KeeperView). k.records) c.handed_back.ensures.keeper) c.in-Err.ensures.some
+
+pub returns-clause-unfailed : goal.returns-clause-unfailed
+returns-clause-unfailed g c =
+    rw c.handed_back-2.ensures.text
+    (on_any c.account_of-text.result (ap (λ (k : KeeperView). k.faults) c.handed_back-2.ensures.keeper ∙ c.in_default.ensures.unfailed))
