@@ -1,15 +1,21 @@
 ghost use Rattle.std.specs.Prelude.{◌≡◌, ◌<◌, ◌^◌, length, IfOk};
 ghost use Rattle.far_base.specs.Limits.{IsPlan};
+ghost use Rattle.far_fabric.specs.Known.{publisher};
+ghost use Rattle.far_world.specs.Scene.{Tells};
 
-use crate::board::Board;
+use crate::board::{Board, BoardPass};
 use crate::running::{in_threads, run_threads};
 use crate::view::Figures;
 use far_base::Party;
 use far_outside::{Gate, NoGate};
 use far_runner::started;
+use far_world::World;
+use server_keeper::MapKeeper;
 use std::alloc::Global;
+use std::sync::Wait;
 use std::sync::atomic::{AtomicU64, Ordering};
 use std::test::Fail;
+use std::thread::Threads;
 use switch_core::PlainSwitch;
 use workload::{Workload, parse};
 
@@ -50,13 +56,34 @@ fn workload_of(alloc: Global, text: &[u8]) -> Result<Workload, Fail>
     }
 }
 
+/// The world at the end of a run in threads of the text.
+fn world_of<G: Gate + Sync, R: Threads + Wait + Sync>(
+    rt: &R,
+    alloc: Global,
+    text: &[u8],
+    gate: &G,
+) -> Result<World<PlainSwitch, MapKeeper>, Fail>
+    requires { length text.now < 2 ^ 32 }
+{
+    let load = workload_of(alloc, text)?;
+    let switch = PlainSwitch::new(alloc, load.plan.config, 1, 0).map_err(|_| "no switch")?;
+    Ok(run_threads(rt, alloc, &load, switch, gate).map_err(|_| "no world")?)
+}
+
+/// The world before the first step of the text.
+fn world_before(alloc: Global, text: &[u8]) -> Result<World<PlainSwitch, MapKeeper>, Fail>
+    requires { length text.now < 2 ^ 32 }
+    ensures { IfOk result (λ world. Tells world.keeper.records) }
+{
+    let load = workload_of(alloc, text)?;
+    let switch = PlainSwitch::new(alloc, load.plan.config, 1, 0).map_err(|_| "no switch")?;
+    Ok(started(alloc, &load.plan, switch).map_err(|_| "no world")?)
+}
+
 /// The run in threads is finished, with every step that the plan needs.
 #[test]
 fn a_run_in_threads_is_finished(rt: HostRuntime) -> Result<(), Fail> {
-    let alloc = rt.alloc();
-    let load = workload_of(alloc, PUT_AND_GET)?;
-    let switch = PlainSwitch::new(alloc, load.plan.config, 1, 0).map_err(|_| "no switch")?;
-    let world = run_threads(&rt, alloc, &load, switch, &NoGate).map_err(|_| "no world")?;
+    let world = world_of(&rt, rt.alloc(), PUT_AND_GET, &NoGate)?;
     assert_eq!(rt; world.log().steps(), 10);
     assert_eq!(rt; world.last_answered(), Some(2));
     Ok(())
@@ -100,21 +127,49 @@ impl Gate for Noting {
     fn after(&self, _who: Party, _answered: Option<u32>) {}
 }
 
+/// Whether the run is finished after the workers of all parties have ended. The switch's worker has the pass.
+fn finishes<G: Gate + Sync, R: Threads + Wait + Sync>(
+    rt: &R,
+    alloc: Global,
+    text: &[u8],
+    gate: &G,
+    board: &Board,
+    pass: BoardPass,
+) -> Result<bool, Fail>
+    requires length { length text.now < 2 ^ 32 }
+    requires board { pass.board ≡ board.now }
+    requires publisher { pass.view ≡ publisher }
+{
+    let world = world_before(alloc, text)?;
+    let world = in_threads(rt, alloc, gate, board, pass, world).map_err(|_| "no end")?;
+    Ok(world.finished())
+}
+
+/// What the board shows after the workers of all parties have ended. `None` where the run is not finished.
+fn shown_at_the_end<G: Gate + Sync, R: Threads + Wait + Sync>(
+    rt: &R,
+    alloc: Global,
+    text: &[u8],
+    gate: &G,
+) -> Result<Option<Figures>, Fail>
+    requires { length text.now < 2 ^ 32 }
+{
+    let (board, mut pass) = Board::new(alloc).map_err(|_| "no board")?;
+    let mut reader = board.split(rt, &mut pass);
+    if !finishes(rt, alloc, text, gate, &board, pass)? {
+        return Ok(None);
+    }
+    Ok(Some(board.read(rt, &mut reader)))
+}
+
 /// Where one event after the other can happen, the switch's worker publishes after the steps 2, 4, 7 and 9, the last time
 /// with the one operation that is answered by then; and the others' workers see before each of their turns what was
 /// published before the last message to them was sent.
 #[test]
 fn every_worker_sees_what_the_switch_publishes(rt: HostRuntime) -> Result<(), Fail> {
-    let alloc = rt.alloc();
-    let load = workload_of(alloc, PUT_AND_GET)?;
-    let switch = PlainSwitch::new(alloc, load.plan.config, 1, 0).map_err(|_| "no switch")?;
-    let world = started(alloc, &load.plan, switch).map_err(|_| "no world")?;
-    let (board, mut publisher) = Board::new(alloc).map_err(|_| "no board")?;
-    let mut reader = board.split(&rt, &mut publisher);
     let gate = Noting::new();
-    let world = in_threads(&rt, alloc, &gate, &board, publisher, world).map_err(|_| "no end")?;
-    assert!(rt; world.finished());
-    assert_eq!(rt; board.read(&rt, &mut reader), figures(9, 1));
+    let shown = shown_at_the_end(&rt, rt.alloc(), PUT_AND_GET, &gate)?;
+    assert_eq!(rt; shown, Some(figures(9, 1)));
     assert_eq!(rt; gate.switch.load(Ordering::SeqCst), 0x2479);
     assert!(rt; gate.client.load(Ordering::SeqCst) >= 7);
     assert!(rt; gate.server.load(Ordering::SeqCst) >= 4);
@@ -128,11 +183,8 @@ const WITH_AN_ORDER: &[u8] =
 /// has published at least step 4.
 #[test]
 fn the_controller_sees_what_the_switch_publishes(rt: HostRuntime) -> Result<(), Fail> {
-    let alloc = rt.alloc();
-    let load = workload_of(alloc, WITH_AN_ORDER)?;
-    let switch = PlainSwitch::new(alloc, load.plan.config, 1, 0).map_err(|_| "no switch")?;
     let gate = Noting::new();
-    let world = run_threads(&rt, alloc, &load, switch, &gate).map_err(|_| "no world")?;
+    let world = world_of(&rt, rt.alloc(), WITH_AN_ORDER, &gate)?;
     assert!(rt; world.finished());
     assert!(rt; gate.controller.load(Ordering::SeqCst) >= 4);
     Ok(())

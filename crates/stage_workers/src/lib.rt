@@ -12,8 +12,3 @@ mod workers;
 
 pub use gate::{NoStageGate, StageGate};
 pub use running::run_stages;
-
-#[cfg(test)]
-mod random_tests;
-#[cfg(test)]
-mod tests;

@@ -34,7 +34,7 @@ fn emit_all(flights: &[Flight], emits: &mut Vec<Emit>)
 }
 
 /// Each packet passes the switch, one after the other.
-pub(crate) fn pass_all(switch: &mut StagedSwitch, packets: &[Packet], emits: &mut Vec<Emit>)
+fn pass_all(switch: &mut StagedSwitch, packets: &[Packet], emits: &mut Vec<Emit>)
     requires counter { switch.old.counter + length packets.now < 2 ^ 64 }
     requires room { length packets.now ≤ vec_capacity emits.old }
     requires empty { emits.old.items ≡ [] }

@@ -1,11 +1,10 @@
-ghost use Rattle.std.specs.Prelude.{◌+◌, ◌<◌, ◌≤◌, ◌^◌, length};
+ghost use Rattle.std.specs.Prelude.{◌≡◌, ◌+◌, ◌<◌, ◌≤◌, ◌^◌, length, IfOk};
 
-use super::*;
-use crate::running::pass_all;
 use far_base::{Body, Config, Key, Out, Packet};
 use rand_core::SeedableRng;
 use rand_core::utils::NextWord;
 use rand_pcg::Lcg64Xsh32;
+use stage_workers::{NoStageGate, run_stages};
 use std::alloc::Global;
 use std::sync::Wait;
 use std::test::Fail;
@@ -20,6 +19,9 @@ const LISTS: u64 = 1000;
 const LONGEST: u32 = 80;
 
 const SLOTS: u32 = 2;
+
+/// More writes than all lists have.
+const LIMIT: u64 = 1_000_000;
 
 /// A number below the bound.
 fn below(rng: &mut Lcg64Xsh32, bound: u32) -> u32
@@ -150,32 +152,8 @@ fn leave_alike(emits: &[Emit], others: &[Emit]) -> bool {
     emits.len() == others.len()
 }
 
-/// Whether both switches have counted the same, and hold the same.
-fn stand_alike(switch: &StagedSwitch, other: &StagedSwitch) -> bool {
-    for slot in 0..SLOTS {
-        if switch.view(slot) != other.view(slot) {
-            return false;
-        }
-    }
-    switch.counter() == other.counter()
-}
-
-/// What leaves where the packets pass one after the other.
-fn passed(alloc: Global, switch: &mut StagedSwitch, packets: &[Packet]) -> Result<Vec<Emit>, Fail>
-    requires { switch.old.counter + length packets.now < 2 ^ 64 }
-{
-    let mut emits = Vec::with_capacity(alloc, packets.len())?;
-    pass_all(switch, packets, &mut emits);
-    Ok(emits)
-}
-
-/// Whether a new switch does the same with the packets in workers and one after the other.
-fn pass_alike<R: Threads + Wait + Sync>(
-    rt: &R,
-    alloc: Global,
-    packets: &[Packet],
-) -> Result<bool, Fail>
-    requires { length packets.now ≤ LONGEST }
+fn new_switch(alloc: Global) -> Result<StagedSwitch, Fail>
+    ensures { IfOk result (λ switch. switch.counter ≡ 0) }
 {
     let config = Config {
         clients: 1,
@@ -183,23 +161,91 @@ fn pass_alike<R: Threads + Wait + Sync>(
         slots: SLOTS,
         hot: 2,
     };
-    let mut alone = StagedSwitch::new(alloc, config, 1, 0).map_err(|_| "new")?;
-    let mut switch = StagedSwitch::new(alloc, config, 1, 0).map_err(|_| "new")?;
-    let emits = run_stages(rt, alloc, &mut switch, packets, &NoStageGate).map_err(|_| "run")?;
+    Ok(StagedSwitch::new(alloc, config, 1, 0).map_err(|_| "new")?)
+}
+
+/// What leaves where the packets pass in workers.
+fn passed_in_workers<R: Threads + Wait + Sync>(
+    rt: &R,
+    alloc: Global,
+    switch: &mut StagedSwitch,
+    packets: &[Packet],
+) -> Result<Vec<Emit>, Fail>
+    requires counter { switch.old.counter + length packets.now < 2 ^ 64 }
+    requires few { length packets.now < 2 ^ 32 }
+{
+    Ok(run_stages(rt, alloc, switch, packets, &NoStageGate).map_err(|_| "run")?)
+}
+
+/// What leaves where the packets pass one after the other.
+fn passed(alloc: Global, switch: &mut StagedSwitch, packets: &[Packet]) -> Result<Vec<Emit>, Fail> {
+    let mut emits = Vec::new(alloc);
+    for packet in packets {
+        if switch.counter() > LIMIT {
+            return Err(Fail::from("too many"));
+        }
+        let Emit { first, second } = switch.pass(packet);
+        emits.extend_from_slice(&[Emit { first, second }])?;
+    }
+    Ok(emits)
+}
+
+/// Whether both switches have counted the same, and answer what comes later alike.
+fn go_on_alike(
+    alloc: Global,
+    switch: &mut StagedSwitch,
+    other: &mut StagedSwitch,
+    later: &[Packet],
+) -> Result<bool, Fail> {
+    if switch.counter() != other.counter() {
+        return Ok(false);
+    }
+    let emits = passed(alloc, switch, later)?;
+    let others = passed(alloc, other, later)?;
+    Ok(leave_alike(&emits, &others))
+}
+
+/// Whether a new switch does the same with the packets in workers and one after the other, and then with later ones.
+fn pass_alike<R: Threads + Wait + Sync>(
+    rt: &R,
+    alloc: Global,
+    packets: &[Packet],
+    later: &[Packet],
+) -> Result<bool, Fail>
+    requires { length packets.now ≤ LONGEST }
+{
+    let mut alone = new_switch(alloc)?;
+    let mut switch = new_switch(alloc)?;
+    let emits = passed_in_workers(rt, alloc, &mut switch, packets)?;
     let due = passed(alloc, &mut alone, packets)?;
-    Ok(leave_alike(&emits, &due) && stand_alike(&switch, &alone))
+    if !leave_alike(&emits, &due) {
+        return Ok(false);
+    }
+    go_on_alike(alloc, &mut switch, &mut alone, later)
+}
+
+/// Whether a random list of packets is passed alike.
+fn list_passes_alike<R: Threads + Wait + Sync>(
+    rt: &R,
+    alloc: Global,
+    start: u64,
+) -> Result<bool, Fail> {
+    let mut rng = Lcg64Xsh32::seed_from_u64(start);
+    let count = below(&mut rng, LONGEST + 1);
+    let packets = some_packets(alloc, &mut rng, count)?;
+    let later = some_packets(alloc, &mut rng, LONGEST)?;
+    if packets.len() > LONGEST as usize {
+        return Ok(false);
+    }
+    pass_alike(rt, alloc, &packets, &later)
 }
 
 /// A thousand random lists, each through the workers and through one pass after the other: the same leaves, and the
-/// switch is left the same.
+/// switch answers what comes later as if they had passed one after the other.
 #[test]
 fn workers_answer_as_passes(rt: HostRuntime) -> Result<(), Fail> {
     for start in 0..LISTS {
-        let mut rng = Lcg64Xsh32::seed_from_u64(start);
-        let count = below(&mut rng, LONGEST + 1);
-        let packets = some_packets(rt.alloc(), &mut rng, count)?;
-        assert!(rt; packets.len() <= LONGEST as usize);
-        assert!(rt; pass_alike(&rt, rt.alloc(), &packets)?);
+        assert!(rt; list_passes_alike(&rt, rt.alloc(), start)?);
     }
     Ok(())
 }
