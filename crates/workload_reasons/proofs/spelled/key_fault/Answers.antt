@@ -1,0 +1,7 @@
+use Rattle.std.proofs.Common.{sym, ◌∙◌, arith, rules}
+use Rattle.workload_reasons.proofs.Spellings.{key_is}
+use Rattle.workload_reasons.proofs.spelled.key_fault.Goals as goal
+
+pub returns-clause-none : goal.returns-clause-none
+returns-clause-none c none = key_is c.args.word.now (sym c.is_empty.ensures
+    ∙ c.if-is_empty.false) (omega arith) (search rules)
